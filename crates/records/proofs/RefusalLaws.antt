@@ -1,0 +1,78 @@
+-- The answers of the checks, by the first test that applies.
+use Prim.Native.Nat.{ℕ, _≤_}
+use mathlib.Core.Bool.{So, false}
+use mathlib.Core.List.{List}
+use mathlib.Core.Path.{_≡_, refl}
+use lib.Dec.{ltb}
+use borrow.Author.Tests.{ltb-false}
+use Rattle.records.specs.Layout.{entries, conceptLayout, maxTokens}
+use Rattle.records.proofs.BoolLaws.{or-false-left, or-false-right}
+use Rattle.records.specs.declared.schema.Signature.{Signature}
+use Rattle.records.specs.declared.schema.SchemaAnswer.the-variants as schema
+use Rattle.records.specs.declared.concept.ConceptAnswer.the-variants as concept
+use Rattle.records.specs.declared.state.StateAnswer.the-variants as state
+use Rattle.records.specs.SchemaRecord.{signatureOf}
+use Rattle.records.specs.Refusal.{misshapen, outside, refusal-1, refusal-2, schemaAnswer, refusal-3, refusal-4, refusal-5, refusal-6, conceptAnswer, refusal-7, refusal-8, refusal-9, refusal-10, stateAnswer}
+
+module _ (w : List ℕ) where
+  pub answer-1 : So (refusal-1 w) → schema.BadShape ≡ schemaAnswer w
+  unfolding schemaAnswer
+  answer-1 h = rw h
+
+  pub answer-2 : refusal-1 w ≡ false → So (refusal-2 w) → schema.BadAxiom ≡ schemaAnswer w
+  unfolding schemaAnswer
+  answer-2 e h = rw (e, h)
+
+  pub schema-accepted : refusal-1 w ≡ false → refusal-2 w ≡ false → schema.Accepted (signatureOf w) ≡ schemaAnswer w
+  unfolding schemaAnswer
+  schema-accepted e f = rw (e, f)
+
+module _ (limit : ℕ) (s : Signature) (w : List ℕ) where
+  pub answer-3 : So (refusal-3 w) → concept.BadShape ≡ conceptAnswer limit s w
+  unfolding conceptAnswer
+  answer-3 h = rw h
+
+  pub answer-4 : refusal-3 w ≡ false → So (refusal-4 s w) → concept.BadToken ≡ conceptAnswer limit s w
+  unfolding conceptAnswer
+  answer-4 e h = rw (e, h)
+
+  pub answer-5 : refusal-3 w ≡ false → refusal-4 s w ≡ false → So (refusal-5 w) → concept.BadPile ≡ conceptAnswer limit s w
+  unfolding conceptAnswer
+  answer-5 e f h = rw (e, f, h)
+
+  pub answer-6 : refusal-3 w ≡ false → refusal-4 s w ≡ false → refusal-5 w ≡ false → So (refusal-6 limit w) → concept.BadSteps ≡ conceptAnswer limit s w
+  unfolding conceptAnswer
+  answer-6 e f g h = rw (e, f, g, h)
+
+  pub concept-accepted : refusal-3 w ≡ false → refusal-4 s w ≡ false → refusal-5 w ≡ false → refusal-6 limit w ≡ false → concept.Accepted ≡ conceptAnswer limit s w
+  unfolding conceptAnswer
+  concept-accepted e f g h = rw (e, f, g, h)
+
+module _ (s : Signature) (w : List ℕ) where
+  pub answer-7 : So (refusal-7 w) → state.BadShape ≡ stateAnswer s w
+  unfolding stateAnswer
+  answer-7 h = rw h
+
+  pub answer-8 : refusal-7 w ≡ false → So (refusal-8 s w) → state.BadFact ≡ stateAnswer s w
+  unfolding stateAnswer
+  answer-8 e h = rw (e, h)
+
+  pub answer-9 : refusal-7 w ≡ false → refusal-8 s w ≡ false → So (refusal-9 w) → state.BadOrder ≡ stateAnswer s w
+  unfolding stateAnswer
+  answer-9 e f h = rw (e, f, h)
+
+  pub answer-10 : refusal-7 w ≡ false → refusal-8 s w ≡ false → refusal-9 w ≡ false → So (refusal-10 s w) → state.BadConstants ≡ stateAnswer s w
+  unfolding stateAnswer
+  answer-10 e f g h = rw (e, f, g, h)
+
+  pub state-accepted : refusal-7 w ≡ false → refusal-8 s w ≡ false → refusal-9 w ≡ false → refusal-10 s w ≡ false → state.Accepted ≡ stateAnswer s w
+  unfolding stateAnswer
+  state-accepted e f g h = rw (e, f, g, h)
+
+-- What an accepted record gives: sizes within their limits.
+
+pub tokens-few : (w : List ℕ) → refusal-3 w ≡ false → entries conceptLayout w ≤ maxTokens
+unfolding refusal-3
+tokens-few w e =
+    ltb-false _ _ (or-false-right (ltb (entries conceptLayout w) 1) (ltb maxTokens (entries conceptLayout w))
+    (or-false-left (outside 1 maxTokens (entries conceptLayout w)) (misshapen conceptLayout w) e))

@@ -1,0 +1,70 @@
+-- Until an earlier constant has the same object, none before it has.
+use Prim.Native.Nat.{_-_, _≤_}
+use Rattle.records.proofs.FiniteLaws.{any-of, any-still, any-zero}
+use Rattle.records.specs.Finite.{any}
+use Rattle.records.specs.Scan.{repeatsIn, sameObject}
+use borrow.Author.Needs.{needs}
+use borrow.Author.Tests.{eq-eqb, ne-eqb}
+use mathlib.Core.Bool.{false}
+use mathlib.Core.Path.{_≡_, sym}
+use native.Mathlib.Omega.{arith}
+use native.Mathlib.Nat.{le-antisymm}
+use Rattle.records.proofs.state.repeats.Statement.{statement}
+use Rattle.records.proofs.state.repeats.Tie as tie
+
+abbrev Inv-loop : tie.InvT-loop
+Inv-loop named a b₀ b = (b ≤ a) × (any b (sameObject named a) ≡ false)
+
+abbrev μ-loop : tie.MeasureT-loop
+μ-loop named a b₀ b = a - b
+
+loop-holds : tie.Need-loop-holds Inv-loop μ-loop
+loop-holds c = (omega arith, any-zero _)
+
+mul-if1 : tie.Need-mul-if1 Inv-loop μ-loop
+mul-if1 c = search needs
+
+element-copy-out-if1 : tie.Need-element-copy-out-if1 Inv-loop μ-loop
+element-copy-out-if1 c = search needs
+
+mul-if1-2 : tie.Need-mul-if1-2 Inv-loop μ-loop
+mul-if1-2 c = search needs
+
+element-copy-out-if1-2 : tie.Need-element-copy-out-if1-2 Inv-loop μ-loop
+element-copy-out-if1-2 c = search needs
+
+returns : tie.Need-returns Inv-loop μ-loop
+unfolding repeatsIn
+returns c =
+    sym (any-of (sameObject (c .before .before .before .before .before .args .named .now) (c .before .before .before .before .before .args .a)) _ _ (c .before .before .before .loop-test .taken) (eq-eqb _ _ (c .if1 .taken)))
+
+add-b : tie.Need-add-b Inv-loop μ-loop
+add-b c = search needs
+
+loop-less : tie.Need-loop-less Inv-loop μ-loop
+loop-less c = omega arith
+
+loop-again : tie.Need-loop-again Inv-loop μ-loop
+loop-again c =
+    (omega arith, any-still (sameObject (c .before .before .before .before .before .args .named .now) (c .before .before .before .before .before .args .a)) _ (c .before .before .before .before .loop .inv .1) (ne-eqb _ _ (c .if1 .left)))
+
+returns-2 : tie.Need-returns-2 Inv-loop μ-loop
+unfolding repeatsIn
+returns-2 c = sym (rw (le-antisymm (c .before .loop .inv .0) (c .loop-test .left)) at (c .before .loop .inv .1))
+
+pub repeats-spec : {M : Type 1} → statement M
+repeats-spec =
+    tie.close
+    (tie.spec
+    Inv-loop
+    μ-loop
+    loop-holds
+    mul-if1
+    element-copy-out-if1
+    mul-if1-2
+    element-copy-out-if1-2
+    returns
+    add-b
+    loop-less
+    loop-again
+    returns-2)

@@ -1,0 +1,22 @@
+-- Searches over the numbers below n, by a test f: whether all pass, whether some does, how many do, and the first.
+-- Plain mathematics; no part of the papers.
+use Prim.Native.Nat.{ℕ, zero, suc}
+use mathlib.Core.Bool.{Bool, true, false, cond, _&&_, _||_}
+use lib.Dec.{ltb}
+
+unfoldable pub all : ℕ → (ℕ → Bool) → Bool
+all zero f = true
+all (suc n) f = all n f && f n
+
+unfoldable pub any : ℕ → (ℕ → Bool) → Bool
+any zero f = false
+any (suc n) f = any n f || f n
+
+unfoldable pub count : ℕ → (ℕ → Bool) → ℕ
+count zero f = zero
+count (suc n) f = cond (f n) (suc (count n f)) (count n f)
+
+-- the lowest number below n that passes, or n where none does
+unfoldable pub least : ℕ → (ℕ → Bool) → ℕ
+least zero f = zero
+least (suc n) f = cond (any n f) (least n f) (cond (f n) n (suc n))

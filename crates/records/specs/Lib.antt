@@ -1,0 +1,20 @@
+-- What a reader must believe: document 01 as definitions, in the order in which it introduces them.
+-- Meaning.
+pub mod Finite
+pub mod State
+pub mod Schema
+pub mod Concept
+pub mod Semantics
+pub mod Subsumption
+-- Records.
+pub mod Word
+pub mod Layout
+pub mod SchemaRecord
+pub mod ConceptRecord
+pub mod StateRecord
+-- Turned back, in checking order.
+pub mod Refusal
+-- The semantics as tests that compute, for the worked examples.
+pub mod Executable
+-- What contracts of helper functions cite, and nothing above them.
+pub mod Scan

@@ -1,0 +1,68 @@
+-- What the checks keep while they scan a record, as plain functions: the pile's sorts, and the constants' objects.
+-- Contracts of helper functions cite them. ConceptScanLaws and StateScanLaws of proofs/ tie them to Refusal.antt.
+use Prim.Native.Nat.{ℕ, zero, suc, _+_, _-_, _*_, _/_, _%_}
+use mathlib.Core.List.{List}
+use mathlib.Core.Bool.{Bool, true, false, cond, not, _&&_, _||_}
+use lib.Dec.{eqb, ltb, leb}
+use lib.ListN.{getD}
+use Rattle.records.specs.declared.concept.Token.{Token}
+use Rattle.records.specs.declared.concept.Token.the-variants.{Class, Everything, Constant, Both, Empty, Forward, Backward, Reached, Common}
+use Rattle.records.specs.declared.concept.Sorts.{Sorts}
+use Rattle.records.specs.Finite.{any}
+use Rattle.records.specs.Layout.{constantKinds, factKinds, maxConstants}
+use Rattle.records.specs.StateRecord.{kindAt, objectAt}
+use Rattle.records.specs.Refusal.{ascends}
+
+abbrev pub putSort : Sorts → ℕ → Sorts
+putSort σ b = record { ok = true; bits = 2 * σ .bits + b; height = σ .height + 1 }
+
+abbrev pub joinSorts : Sorts → ℕ → ℕ → Sorts
+joinSorts σ want b =
+    cond (ltb (σ .height) 2 || not (eqb (σ .bits % 4) want)) (record { ok = false; bits = 0; height = 0 })
+    (record { ok = true; bits = 2 * (σ .bits / 4) + b; height = σ .height - 1 })
+
+abbrev pub reachSort : Sorts → Sorts
+reachSort σ =
+    cond (ltb (σ .height) 1 || not (eqb (σ .bits % 2) 1)) (record { ok = false; bits = 0; height = 0 })
+    (record { ok = true; bits = σ .bits - 1; height = σ .height })
+
+abbrev pub pushOk : Token → Sorts → Sorts
+pushOk (Class A) σ = putSort σ 0
+pushOk Everything σ = putSort σ 0
+pushOk (Constant a) σ = putSort σ 0
+pushOk Both σ = joinSorts σ 0 0
+pushOk Empty σ = putSort σ 1
+pushOk (Forward P) σ = joinSorts σ 2 1
+pushOk (Backward P) σ = joinSorts σ 2 1
+pushOk Reached σ = reachSort σ
+pushOk Common σ = joinSorts σ 3 0
+
+abbrev pub pushSort : Token → Sorts → Sorts
+pushSort t σ = cond (σ .ok) (pushOk t σ) σ
+
+abbrev pub isConceptSort : Sorts → Bool
+isConceptSort σ = σ .ok && eqb (σ .height) 1 && eqb (σ .bits) 0
+
+-- fact i is the first, or stands after the one before it
+unfoldable pub followsAt : List ℕ → ℕ → Bool
+followsAt w zero = true
+followsAt w (suc i) = ascends w i
+
+-- the constant that a fact of this kind names, or one past the last
+abbrev pub slotOf : ℕ → ℕ
+slotOf k = cond (leb constantKinds k && ltb k factKinds) (k - constantKinds) maxConstants
+
+abbrev pub sameObject : List ℕ → ℕ → ℕ → Bool
+sameObject named a b = eqb (getD named b 0) (getD named a 0)
+
+-- an earlier constant has the same object
+unfoldable pub repeatsIn : List ℕ → ℕ → Bool
+repeatsIn named a = any a (sameObject named a)
+
+-- constant a has no fact or several, or its object is an earlier one's
+abbrev pub misnamedAt : List ℕ → List ℕ → ℕ → Bool
+misnamedAt counts named a = not (eqb (getD counts a 0) 1) || repeatsIn named a
+
+-- and a constant that no fact can name has none
+unfoldable pub misnamed : List ℕ → List ℕ → ℕ → Bool
+misnamed counts named constants = ltb maxConstants constants || any constants (misnamedAt counts named)

@@ -1,0 +1,38 @@
+-- Document 01, "Records": the state that a record stands for, with the objects below N and exactly what its facts say.
+use Prim.Native.Nat.{ℕ, _+_, _/_, _%_}
+use mathlib.Core.List.{List}
+use mathlib.Core.Bool.{Bool, _&&_}
+use lib.Dec.{eqb}
+use Rattle.records.specs.Finite.{any, least}
+use Rattle.records.specs.State.{State}
+use Rattle.records.specs.Layout.{stateLayout, sizeAt, entries, leftAt, rightAt, objectPart, attributeKinds, constantKinds}
+
+unfoldable pub objects : List ℕ → ℕ
+objects w = sizeAt w 0
+
+-- Left is a kind and an object.
+unfoldable pub kindAt : List ℕ → ℕ → ℕ
+kindAt w i = leftAt stateLayout w i / objectPart
+
+unfoldable pub objectAt : List ℕ → ℕ → ℕ
+objectAt w i = leftAt stateLayout w i % objectPart
+
+-- some fact is of this kind and object
+unfoldable pub says : List ℕ → ℕ → ℕ → Bool
+says w k d = any (entries stateLayout w) λ i. eqb (kindAt w i) k && eqb (objectAt w i) d
+
+-- some fact is of this kind and this pair of objects
+unfoldable pub saysPair : List ℕ → ℕ → ℕ → ℕ → Bool
+saysPair w k d e =
+    any (entries stateLayout w) λ i. eqb (kindAt w i) k && eqb (objectAt w i) d && eqb (rightAt stateLayout w i) e
+
+-- The first kinds put the object in that class; then come the attributes, with the object as first of a pair,
+-- and then the constants whose object it is. (A constant without an object is refused: it gets N, which is none.)
+unfoldable pub stateOf : List ℕ → State
+stateOf w =
+    record {
+      size = objects w;
+      members = λ A d. says w A d;
+      pairs = λ P d e. saysPair w (attributeKinds + P) d e;
+      names = λ a. least (objects w) λ d. says w (constantKinds + a) d;
+    }

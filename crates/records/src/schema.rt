@@ -1,0 +1,166 @@
+// The schema record: its axioms decoded, and its check.
+use crate::layout::Layout;
+use crate::layout::entries;
+use crate::layout::left;
+use crate::layout::misshapen;
+use crate::layout::right;
+use crate::layout::word;
+ghost use mathlib.Core.Path.{_≡_};
+ghost use Prim.Native.Nat.{_<_, _^_};
+ghost use Rattle.records.specs.Word.{IsWord, IsLayout};
+ghost use Rattle.records.specs.Layout.{entries as entriesOf, schemaLayout};
+ghost use Rattle.records.specs.SchemaRecord.{signatureOf, axiomOf, schemaOf};
+ghost use Rattle.records.specs.Refusal.{oversized as oversizedIn, declares as declaresIn, faultyAxiom, refusal-1, schemaAnswer, schemaNumber};
+
+const MAX_CLASSES: usize = 24;
+
+const MAX_ATTRIBUTES: usize = 8;
+
+const MAX_CONSTANTS: usize = 4;
+
+const MAX_AXIOMS: usize = 96;
+// A word of two parts is the first times this plus the second.
+const BYTE_PART: usize = 256;
+
+// How many classes, attributes and constants are declared; each is numbered from 0.
+pub struct Signature {
+    pub classes: usize,
+    pub attributes: usize,
+    pub constants: usize,
+}
+
+// The five kinds of axiom, in the paper's order.
+pub enum Axiom {
+    // class A, class B
+    Subclass(usize, usize),
+    // class A, attribute P, class B
+    Typing(usize, usize, usize),
+    // class A, attribute P
+    Necessary(usize, usize),
+    // class A, attribute P
+    Single(usize, usize),
+    // attribute P, class A1, class A2
+    Relates(usize, usize, usize),
+}
+
+pub enum SchemaAnswer {
+    Accepted(Signature),
+    BadShape,
+    BadAxiom,
+}
+
+impl SchemaAnswer {
+    // The paper's number, 0 for an accepted record.
+    pub fn number(self) -> u16
+        ensures { λ r. ⌜ r ≡ schemaNumber self ⌝ }
+    {
+        match self {
+            SchemaAnswer::Accepted(_) => 0,
+            SchemaAnswer::BadShape => 1,
+            SchemaAnswer::BadAxiom => 2,
+        }
+    }
+}
+
+pub fn schema_layout() -> Layout
+    ensures { λ r. ⌜ IsLayout schemaLayout r ⌝ }
+{
+    Layout {
+        sizes: 4,
+        counter: 3,
+    }
+}
+
+pub fn axioms(words: &[u16]) -> usize
+    ensures { λ r. ⌜ IsWord (entriesOf schemaLayout (now (words .entry))) r ⌝ }
+{
+    entries(schema_layout(), words)
+}
+
+pub fn signature_of(words: &[u16]) -> Signature
+    ensures { λ r. ⌜ r ≡ signatureOf (now (words .entry)) ⌝ }
+{
+    Signature {
+        classes: word(words, 0),
+        attributes: word(words, 1),
+        constants: word(words, 2),
+    }
+}
+
+pub fn axiom_of(left: usize, right: usize) -> Axiom
+    ensures { λ r. ⌜ r ≡ axiomOf left right ⌝ }
+{
+    let kind = left / BYTE_PART;
+    let subject = left % BYTE_PART;
+    match kind {
+        1 => Axiom::Subclass(subject, right),
+        2 => Axiom::Typing(subject, right / BYTE_PART, right % BYTE_PART),
+        3 => Axiom::Necessary(subject, right),
+        4 => Axiom::Single(subject, right),
+        _ => Axiom::Relates(subject, right / BYTE_PART, right % BYTE_PART),
+    }
+}
+
+pub fn axiom_at(words: &[u16], i: usize) -> Axiom
+    requires { ⌜ i < 2 ^ 16 ⌝ }
+    ensures { λ r. ⌜ r ≡ schemaOf (now (words .entry)) .axiomAt i ⌝ }
+{
+    let l = left(schema_layout(), words, i);
+    let r = right(schema_layout(), words, i);
+    axiom_of(l, r)
+}
+
+fn declares(s: Signature, a: Axiom) -> bool
+    ensures { λ r. ⌜ r ≡ declaresIn s a ⌝ }
+{
+    match a {
+        Axiom::Subclass(a, b) => (a < s.classes) & (b < s.classes),
+        Axiom::Typing(a, p, b) => (a < s.classes) & (p < s.attributes) & (b < s.classes),
+        Axiom::Necessary(a, p) => (a < s.classes) & (p < s.attributes),
+        Axiom::Single(a, p) => (a < s.classes) & (p < s.attributes),
+        Axiom::Relates(p, a, b) => (p < s.attributes) & (a < s.classes) & (b < s.classes),
+    }
+}
+
+// Refusal 2 at axiom `i`.
+fn faulty_axiom(s: Signature, words: &[u16], i: usize) -> bool
+    requires { ⌜ i < 2 ^ 16 ⌝ }
+    ensures { λ r. ⌜ r ≡ faultyAxiom s (now (words .entry)) i ⌝ }
+{
+    let kind = left(schema_layout(), words, i) / BYTE_PART;
+    (kind < 1) | (5 < kind) | !declares(s, axiom_at(words, i))
+}
+
+// A size is above its limit.
+fn oversized(s: Signature, axioms: usize) -> bool
+    ensures { λ r. ⌜ r ≡ oversizedIn s axioms ⌝ }
+{
+    (MAX_CLASSES < s.classes)
+        | (MAX_ATTRIBUTES < s.attributes)
+        | (MAX_CONSTANTS < s.constants)
+        | (MAX_AXIOMS < axioms)
+}
+
+// Refusal 1.
+fn bad_shape(words: &[u16]) -> bool
+    ensures { λ r. ⌜ r ≡ refusal-1 (now (words .entry)) ⌝ }
+{
+    let n = axioms(words);
+    oversized(signature_of(words), n) | misshapen(schema_layout(), words)
+}
+
+pub fn check_schema(words: &[u16]) -> SchemaAnswer
+    ensures { λ r. ⌜ r ≡ schemaAnswer (now (words .entry)) ⌝ }
+{
+    if bad_shape(words) {
+        return SchemaAnswer::BadShape;
+    }
+    let s = signature_of(words);
+    let n = axioms(words);
+    for i in 0..n {
+        if faulty_axiom(s, words, i) {
+            return SchemaAnswer::BadAxiom;
+        }
+    }
+    SchemaAnswer::Accepted(s)
+}

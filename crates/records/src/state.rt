@@ -1,0 +1,219 @@
+// The state record: its facts, and its check.
+use crate::layout::Layout;
+use crate::layout::entries;
+use crate::layout::left;
+use crate::layout::misshapen;
+use crate::layout::right;
+use crate::layout::word;
+use crate::schema::Signature;
+ghost use mathlib.Core.Path.{_≡_};
+ghost use Prim.Native.Nat.{_<_, _^_};
+ghost use lib.ListN.{length};
+ghost use Rattle.records.specs.Word.{IsWord, IsLayout};
+ghost use Rattle.records.specs.Layout.{entries as entriesOf, stateLayout};
+ghost use Rattle.records.specs.StateRecord.{objects as objectsOf, kindAt, objectAt};
+ghost use Rattle.records.specs.Refusal.{refusal-7, declaresKind, suitsKind, faultyFact, ascends as ascendsAt, stateAnswer, stateNumber};
+ghost use Rattle.records.specs.Scan.{followsAt, slotOf, repeatsIn, misnamed as misnamedIn};
+
+const MAX_OBJECTS: usize = 480;
+
+const MAX_FACTS: usize = 15_380;
+// A fact's left word is its kind times this plus its object.
+const OBJECT_PART: usize = 512;
+// The first kind of attributes, the first of constants, and one past the last.
+const ATTRIBUTE_KINDS: usize = 24;
+
+const CONSTANT_KINDS: usize = 32;
+
+const FACT_KINDS: usize = 36;
+// A place for each constant that a fact can name, and one more for all other facts.
+const SLOTS: usize = FACT_KINDS - CONSTANT_KINDS + 1;
+
+pub enum StateAnswer {
+    Accepted,
+    BadShape,
+    BadFact,
+    BadOrder,
+    BadConstants,
+}
+
+impl StateAnswer {
+    // The paper's number, 0 for an accepted record.
+    pub fn number(self) -> u16
+        ensures { λ r. ⌜ r ≡ stateNumber self ⌝ }
+    {
+        match self {
+            StateAnswer::Accepted => 0,
+            StateAnswer::BadShape => 7,
+            StateAnswer::BadFact => 8,
+            StateAnswer::BadOrder => 9,
+            StateAnswer::BadConstants => 10,
+        }
+    }
+}
+
+pub fn state_layout() -> Layout
+    ensures { λ r. ⌜ IsLayout stateLayout r ⌝ }
+{
+    Layout {
+        sizes: 2,
+        counter: 1,
+    }
+}
+
+pub fn facts(words: &[u16]) -> usize
+    ensures { λ r. ⌜ IsWord (entriesOf stateLayout (now (words .entry))) r ⌝ }
+{
+    entries(state_layout(), words)
+}
+
+pub fn objects(words: &[u16]) -> usize
+    ensures { λ r. ⌜ IsWord (objectsOf (now (words .entry))) r ⌝ }
+{
+    word(words, 0)
+}
+
+pub fn kind_at(words: &[u16], i: usize) -> usize
+    requires { ⌜ i < 2 ^ 16 ⌝ }
+    ensures { λ r. ⌜ r ≡ kindAt (now (words .entry)) i ⌝ }
+{
+    left(state_layout(), words, i) / OBJECT_PART
+}
+
+pub fn object_at(words: &[u16], i: usize) -> usize
+    requires { ⌜ i < 2 ^ 16 ⌝ }
+    ensures { λ r. ⌜ r ≡ objectAt (now (words .entry)) i ⌝ }
+{
+    left(state_layout(), words, i) % OBJECT_PART
+}
+
+fn declares_kind(s: Signature, kind: usize) -> bool
+    ensures { λ r. ⌜ r ≡ declaresKind s kind ⌝ }
+{
+    if kind < ATTRIBUTE_KINDS {
+        return kind < s.classes;
+    }
+    if kind < CONSTANT_KINDS {
+        return kind - ATTRIBUTE_KINDS < s.attributes;
+    }
+    (kind < FACT_KINDS) & (kind - CONSTANT_KINDS < s.constants)
+}
+
+fn suits_kind(n: usize, kind: usize, right: usize) -> bool
+    ensures { λ r. ⌜ r ≡ suitsKind n kind right ⌝ }
+{
+    if (ATTRIBUTE_KINDS <= kind) & (kind < CONSTANT_KINDS) {
+        right < n
+    } else {
+        right == 0
+    }
+}
+
+// Refusal 8 at fact `i`.
+fn faulty_fact(s: Signature, words: &[u16], i: usize) -> bool
+    requires { ⌜ i < 2 ^ 16 ⌝ }
+    ensures { λ r. ⌜ r ≡ faultyFact s (now (words .entry)) i ⌝ }
+{
+    let n = objects(words);
+    let kind = kind_at(words, i);
+    let object = object_at(words, i);
+    let second = right(state_layout(), words, i);
+    !declares_kind(s, kind) | (n <= object) | !suits_kind(n, kind, second)
+}
+
+// Fact `i` stands before the next one.
+fn ascends(words: &[u16], i: usize) -> bool
+    requires { ⌜ i < 2 ^ 16 ⌝ }
+    ensures { λ r. ⌜ r ≡ ascendsAt (now (words .entry)) i ⌝ }
+{
+    let l = left(state_layout(), words, i);
+    let next = left(state_layout(), words, i + 1);
+    let r = right(state_layout(), words, i);
+    let second = right(state_layout(), words, i + 1);
+    (l < next) | ((l == next) & (r < second))
+}
+
+// Fact `i` is the first, or stands after the one before it.
+fn follows(words: &[u16], i: usize) -> bool
+    requires { ⌜ i < 2 ^ 16 ⌝ }
+    ensures { λ r. ⌜ r ≡ followsAt (now (words .entry)) i ⌝ }
+{
+    if i == 0 { true } else { ascends(words, i - 1) }
+}
+
+// The constant that a fact of this kind names, or the place of all other facts.
+fn slot(kind: usize) -> usize
+    ensures { λ r. ⌜ (r ≡ slotOf kind) × (r < 5) ⌝ }
+{
+    if (CONSTANT_KINDS <= kind) & (kind < FACT_KINDS) {
+        kind - CONSTANT_KINDS
+    } else {
+        FACT_KINDS - CONSTANT_KINDS
+    }
+}
+
+// An earlier constant has the same object.
+fn repeats(named: &[usize; SLOTS], a: usize) -> bool
+    requires { ⌜ (a < 5) × (length (now named) ≡ 5) ⌝ }
+    ensures { λ r. ⌜ r ≡ repeatsIn (now (named .entry)) a ⌝ }
+{
+    for b in 0..a {
+        if named[b] == named[a] {
+            return true;
+        }
+    }
+    false
+}
+
+// Refusal 10, from how many facts name each constant and the object of the last of them.
+fn misnamed(counts: &[usize; SLOTS], named: &[usize; SLOTS], constants: usize) -> bool
+    requires { ⌜ (length (now counts) ≡ 5) × (length (now named) ≡ 5) ⌝ }
+    ensures { λ r. ⌜ r ≡ misnamedIn (now (counts .entry)) (now (named .entry)) constants ⌝ }
+{
+    if FACT_KINDS - CONSTANT_KINDS < constants {
+        return true;
+    }
+    for a in 0..constants {
+        if (counts[a] != 1) | repeats(named, a) {
+            return true;
+        }
+    }
+    false
+}
+
+// Refusal 7.
+fn bad_shape(words: &[u16]) -> bool
+    ensures { λ r. ⌜ r ≡ refusal-7 (now (words .entry)) ⌝ }
+{
+    let n = facts(words);
+    (MAX_OBJECTS < objects(words)) | (MAX_FACTS < n) | misshapen(state_layout(), words)
+}
+
+pub fn check_state(s: Signature, words: &[u16]) -> StateAnswer
+    ensures { λ r. ⌜ r ≡ stateAnswer s (now (words .entry)) ⌝ }
+{
+    if bad_shape(words) {
+        return StateAnswer::BadShape;
+    }
+    let n = facts(words);
+    let mut ascending = true;
+    let mut counts = [0usize; SLOTS];
+    let mut named = [0usize; SLOTS];
+    for i in 0..n {
+        if faulty_fact(s, words, i) {
+            return StateAnswer::BadFact;
+        }
+        let next = ascending & follows(words, i);
+        ascending = next;
+        let at = slot(kind_at(words, i));
+        counts[at] = counts[at] + 1;
+        named[at] = object_at(words, i);
+    }
+    if !ascending {
+        return StateAnswer::BadOrder;
+    }
+    if misnamed(&counts, &named, s.constants) {
+        return StateAnswer::BadConstants;
+    }
+    StateAnswer::Accepted
+}

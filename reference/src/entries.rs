@@ -1,0 +1,96 @@
+//! What can be asked, over raw records. Records are checked in the order
+//! schema, query or concept, view, state, lent words; `Err` holds the number
+//! of the refusal, and a refused call changes nothing.
+
+use crate::calculus::{self, Verdict};
+use crate::records::{self, QUERY_STEPS, VIEW_STEPS};
+use crate::semantics;
+
+/// The least number of lent words for a decision.
+pub const DECIDE_WORDS: usize = 30_762;
+
+/// Whether a state is legal, otherwise the place of its first broken axiom.
+#[derive(Clone, Copy, Debug, PartialEq, Eq)]
+pub enum Legality {
+    Legal,
+    Broken(u16),
+}
+
+/// Whether a state disproves subsumption, and by which lowest object.
+#[derive(Clone, Copy, Debug, PartialEq, Eq)]
+pub enum Counterexample {
+    No,
+    Yes(u16),
+}
+
+/// Marks the selected objects in the lent words and counts them.
+pub fn select(
+    schema: &[u16],
+    concept: &[u16],
+    state: &[u16],
+    lent: &mut [u16],
+) -> Result<u16, u16> {
+    let schema = records::schema(schema)?;
+    let concept = records::concept(concept, &schema, QUERY_STEPS)?;
+    let state = records::state(state, &schema)?;
+    if lent.len() < state.objects {
+        return Err(11);
+    }
+    let marks = semantics::selected(&state, &concept);
+    for (word, &mark) in lent.iter_mut().zip(&marks) {
+        *word = u16::from(mark);
+    }
+    Ok(marks.iter().map(|&mark| u16::from(mark)).sum())
+}
+
+/// Tells whether every axiom of the schema holds in the state.
+pub fn legal(schema: &[u16], state: &[u16]) -> Result<Legality, u16> {
+    let schema = records::schema(schema)?;
+    let state = records::state(state, &schema)?;
+    Ok(match semantics::first_broken(&schema, &state) {
+        None => Legality::Legal,
+        Some(place) => Legality::Broken(word(place)),
+    })
+}
+
+/// Tells whether the state is legal and has an object in the query and
+/// outside the view.
+pub fn counterexample(
+    schema: &[u16],
+    query: &[u16],
+    view: &[u16],
+    state: &[u16],
+) -> Result<Counterexample, u16> {
+    let schema = records::schema(schema)?;
+    let query = records::concept(query, &schema, QUERY_STEPS)?;
+    let view = records::concept(view, &schema, VIEW_STEPS)?;
+    let state = records::state(state, &schema)?;
+    Ok(
+        match semantics::counterexample(&schema, &query, &view, &state) {
+            None => Counterexample::No,
+            Some(object) => Counterexample::Yes(word(object)),
+        },
+    )
+}
+
+/// Decides subsumption. No state is written, so only the number of lent words
+/// counts.
+pub fn decide(
+    schema: &[u16],
+    query: &[u16],
+    view: &[u16],
+    lent_len: usize,
+) -> Result<Verdict, u16> {
+    let schema = records::schema(schema)?;
+    let query = records::concept(query, &schema, QUERY_STEPS)?;
+    let view = records::concept(view, &schema, VIEW_STEPS)?;
+    if lent_len < DECIDE_WORDS {
+        return Err(11);
+    }
+    Ok(calculus::decide(&schema, &query, &view))
+}
+
+/// Places and objects of accepted records stay far below the word's limit.
+fn word(number: usize) -> u16 {
+    u16::try_from(number).expect("record sizes bound the number")
+}

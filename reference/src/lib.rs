@@ -1,0 +1,15 @@
+//! An independent reference for the checks, the set semantics and the verdicts.
+//!
+//! `entries` is what a comparison calls. Verdicts come from the calculus of
+//! report RR-93-44; states are judged by table 1 of the same report.
+
+#![forbid(unsafe_code)]
+
+pub mod calculus;
+pub mod entries;
+pub mod records;
+pub mod semantics;
+pub mod syntax;
+
+#[cfg(test)]
+mod tests;

@@ -1,0 +1,19 @@
+//! Tests of the crate, by subject. `prng`, `random`, `build` and `write` serve
+//! the others.
+
+mod brute_force;
+mod build;
+mod canonical;
+mod concept_refusals;
+mod lent_words;
+mod order_of_checks;
+mod patient;
+mod pointwise;
+mod prng;
+mod random;
+mod round_trip;
+mod schema_refusals;
+mod small_states;
+mod state_refusals;
+mod triples;
+mod write;

@@ -1,0 +1,155 @@
+//! Refusals 7 to 10 and the state's limits.
+
+use super::write::{fact, record};
+use crate::entries::select;
+use crate::records::{schema, state};
+
+/// Two classes, one attribute, two constants.
+const SIZES: [u16; 4] = [2, 1, 2, 0];
+
+fn refusal_under(sizes: &[u16; 4], words: &[u16]) -> u16 {
+    let schema = schema(sizes).expect("an alphabet without axioms");
+    state(words, &schema).err().unwrap_or(0)
+}
+
+/// The refusal of three objects with these facts.
+fn facts_refusal(facts: &[(u16, u16)]) -> u16 {
+    refusal_under(&SIZES, &record(&[3, facts.len() as u16], facts))
+}
+
+/// As many facts as a state may have, over all that can be declared.
+fn full_facts() -> Vec<(u16, u16)> {
+    let mut facts = Vec::new();
+    for class in 0..24 {
+        facts.extend((0..480).map(|object| fact(class, object, 0)));
+    }
+    for attribute in 24..32 {
+        facts.extend([fact(attribute, 0, 1), fact(attribute, 0, 2)]);
+        facts.extend((0..480).map(|object| fact(attribute, object, 479)));
+    }
+    facts.extend((0..4).map(|constant| fact(32 + constant, constant, 0)));
+    facts.sort_unstable();
+    facts
+}
+
+#[test]
+fn short_records() {
+    let none = [0, 0, 0, 0];
+    assert_eq!(refusal_under(&none, &[]), 7);
+    assert_eq!(refusal_under(&none, &[0]), 7);
+    assert_eq!(refusal_under(&none, &[0, 0]), 0);
+    assert_eq!(refusal_under(&none, &[0, 0, 0]), 7);
+    assert_eq!(refusal_under(&none, &[1, 1, 0]), 7);
+}
+
+#[test]
+fn object_counts() {
+    let none = [0, 0, 0, 0];
+    assert_eq!(refusal_under(&none, &[480, 0]), 0);
+    assert_eq!(refusal_under(&none, &[481, 0]), 7);
+    assert_eq!(refusal_under(&none, &[u16::MAX, 0]), 7);
+}
+
+#[test]
+fn fact_counts() {
+    let sizes = [24, 8, 4, 0];
+    let mut facts = full_facts();
+    assert_eq!(facts.len(), 15_380);
+    let words = record(&[480, 15_380], &facts);
+    assert_eq!(words.len(), 30_762);
+    assert_eq!(refusal_under(&sizes, &words), 0);
+    let mut lent = [0; 480];
+    let everything = [1, 0, 2, 0];
+    assert_eq!(select(&sizes, &everything, &words, &mut lent), Ok(480));
+    facts.insert(24 * 480, fact(24, 0, 0));
+    let words = record(&[480, 15_381], &facts);
+    assert_eq!(refusal_under(&sizes, &words), 7);
+}
+
+#[test]
+fn accepted_facts() {
+    let facts = [
+        fact(0, 2, 0),
+        fact(1, 0, 0),
+        fact(24, 0, 2),
+        fact(24, 2, 0),
+        fact(32, 2, 0),
+        fact(33, 0, 0),
+    ];
+    assert_eq!(facts_refusal(&facts), 0);
+}
+
+#[test]
+fn bad_facts() {
+    let bad = [
+        fact(2, 0, 0),
+        fact(23, 0, 0),
+        fact(25, 0, 0),
+        fact(31, 0, 0),
+        fact(34, 0, 0),
+        fact(36, 0, 0),
+        fact(127, 0, 0),
+        fact(0, 3, 0),
+        fact(0, 511, 0),
+        fact(24, 3, 0),
+        fact(24, 0, 3),
+        fact(24, 0, 65_535),
+        fact(32, 3, 0),
+        fact(0, 0, 1),
+        fact(33, 0, 1),
+    ];
+    for fact in bad {
+        assert_eq!(facts_refusal(&[fact]), 8, "{fact:?}");
+    }
+    assert_eq!(refusal_under(&[1, 0, 0, 0], &[0, 1, 0, 0]), 8);
+}
+
+#[test]
+fn order() {
+    let named = [fact(32, 0, 0), fact(33, 1, 0)];
+    let bad = [
+        [fact(0, 1, 0), fact(0, 0, 0)],
+        [fact(0, 1, 0), fact(0, 1, 0)],
+        [fact(24, 0, 1), fact(24, 0, 0)],
+        [fact(24, 0, 1), fact(24, 0, 1)],
+        [fact(24, 0, 0), fact(1, 0, 0)],
+    ];
+    for [first, second] in bad {
+        let facts = [first, second, named[0], named[1]];
+        assert_eq!(facts_refusal(&facts), 9, "{facts:?}");
+    }
+    assert_eq!(facts_refusal(&[named[1], named[0]]), 9);
+}
+
+#[test]
+fn constants() {
+    assert_eq!(facts_refusal(&[]), 10);
+    assert_eq!(facts_refusal(&[fact(32, 0, 0)]), 10);
+    assert_eq!(facts_refusal(&[fact(33, 0, 0)]), 10);
+    let several = [fact(32, 0, 0), fact(32, 1, 0), fact(33, 2, 0)];
+    assert_eq!(facts_refusal(&several), 10);
+    assert_eq!(facts_refusal(&[fact(32, 1, 0), fact(33, 1, 0)]), 10);
+    assert_eq!(facts_refusal(&[fact(32, 1, 0), fact(33, 0, 0)]), 0);
+    assert_eq!(refusal_under(&SIZES, &[0, 0]), 10);
+}
+
+#[test]
+fn layout_comes_before_facts() {
+    let facts = [fact(36, 0, 0)];
+    assert_eq!(refusal_under(&SIZES, &record(&[3, 2], &facts)), 7);
+    assert_eq!(refusal_under(&SIZES, &record(&[481, 1], &facts)), 7);
+}
+
+#[test]
+fn all_facts_come_before_order() {
+    let facts = [fact(1, 0, 0), fact(0, 0, 0), fact(36, 0, 0)];
+    assert_eq!(facts_refusal(&facts), 8);
+    let facts = [fact(1, 0, 0), fact(1, 0, 0), fact(1, 0, 1)];
+    assert_eq!(facts_refusal(&facts), 8);
+}
+
+#[test]
+fn order_comes_before_constants() {
+    assert_eq!(facts_refusal(&[fact(0, 1, 0), fact(0, 0, 0)]), 9);
+    assert_eq!(facts_refusal(&[fact(32, 0, 0), fact(32, 0, 0)]), 9);
+}
