@@ -2,12 +2,18 @@
 use Prim.Native.Nat.{ℕ, zero, suc, _+_, _≤_, _<_}
 use mathlib.Core.Bool.{Bool, true, false, So, cond, not, _&&_, _||_, true≢false, false≢true}
 use mathlib.Core.Path.{_≡_, refl, sym, ap, ap₂, subst, _∙_}
-use mathlib.Core.Logic.{_⊎_, inl, inr, ⊎-elim}
+use mathlib.Core.Logic.{_⊎_, inl, inr, ⊎-elim, _↔_}
 use native.Mathlib.Nat.{not-suc-le-zero, eq-or-lt-of-le, le-of-suc-le-suc}
 use native.Mathlib.Numerals.{add-one}
 use native.Mathlib.Omega.{arith}
 use Rattle.records.specs.Finite.{all, any, count, least}
 use Rattle.records.proofs.BoolLaws.{or-false-left, or-false-right, or-true-cases, or-left, or-right, and-left, and-right, and-both, not-both}
+
+-- k is the lowest below n that passes, or n where none does
+record First (f : ℕ → Bool) (n k : ℕ) : Type 0 where
+  within : k ≤ n
+  passes : k < n → So (f k)
+  before : (i : ℕ) → i < k → f i ≡ false
 
 module _ (f : ℕ → Bool) where
   pub any-more : (n : ℕ) → any (n + 1) f ≡ (any n f || f n)
@@ -114,14 +120,50 @@ module _ (f : ℕ → Bool) where
       pick true e = refl
       pick false e = absurd (not-suc-le-zero (rw (none-count n (any-none n e)) at h))
 
-  pub least-is : (n i : ℕ) → i < n → So (f i) → ((j : ℕ) → j < i → f j ≡ false) → least n f ≡ i
-  unfolding least
-  least-is zero i l p low = absurd (not-suc-le-zero l)
-  least-is (suc n) i l p low =
-      ⊎-elim (λ e. at n e) (λ m. rw (any-of n i m p) (least-is n i m p low)) (eq-or-lt-of-le (le-of-suc-le-suc l))
+  -- The lowest below n that passes, or n.
+  first-least : (n : ℕ) → First f n (least n f)
+  unfolding any least
+  first-least zero = record { within = omega arith; passes = λ l. absurd (not-suc-le-zero l); before = λ i l. absurd (not-suc-le-zero l) }
+  first-least (suc n) = pick (any n f) (f n) refl refl (first-least n)
     where
-      at : (n : ℕ) → i ≡ n → cond (any n f) (least n f) (cond (f n) n (suc n)) ≡ i
-      at n e = rw (← e, none-any i low, p)
+      below : First f n (least n f) → So (any n f) → least n f < n
+      below z e =
+          let (i, l, p) = any-found n e in
+          ⊎-elim (λ q. absurd (not-both (f i) p (z .before i (omega arith)))) (λ m. m) (eq-or-lt-of-le (z .within))
+
+      pick : (a b : Bool) → any n f ≡ a → f n ≡ b → First f n (least n f) → First f (suc n) (cond a (least n f) (cond b n (suc n)))
+      pick true b e g z = record { within = omega arith; passes = λ l. z .passes (below z e); before = z .before }
+      pick false true e g z = record { within = omega arith; passes = λ l. g; before = any-none n e }
+      pick false false e g z = record { within = omega arith; passes = λ l. absurd (omega arith); before = any-none (suc n) (rw e g) }
+
+  pub least-le : (n : ℕ) → least n f ≤ n
+  least-le n = first-least n .within
+
+  pub least-passes : (n : ℕ) → least n f < n → So (f (least n f))
+  least-passes n = first-least n .passes
+
+  pub least-first : (n i : ℕ) → i < least n f → f i ≡ false
+  least-first n = first-least n .before
+
+  pub least-none : (n : ℕ) → least n f ≡ n → (i : ℕ) → i < n → f i ≡ false
+  least-none n e i l = least-first n i (omega arith)
+
+  -- nothing else is the lowest
+  pub least-is : (n k : ℕ) → k ≤ n → (k < n → So (f k)) → ((i : ℕ) → i < k → f i ≡ false) → least n f ≡ k
+  least-is n k l p h =
+      let given : First f n k = record { within = l; passes = p; before = h } in
+      omega (arith, none-lower given (first-least n), none-lower (first-least n) given)
+    where
+      none-lower : {j k : ℕ} → First f n j → First f n k → j < k → ⊥
+      none-lower {j} {k} y z m = not-both (f j) (y .passes (omega arith)) (z .before j m)
+
+-- What a search says, from what its test says.
+
+pub all-iff : {n : ℕ} {f : ℕ → Bool} {X : ℕ → Type 0} → ((i : ℕ) → So (f i) ↔ X i) → So (all n f) ↔ ((i : ℕ) → i < n → X i)
+all-iff {n} {f} h = (λ e i l. h i .0 (all-at f n e i l), λ g. all-of f n (λ i l. h i .1 (g i l)))
+
+pub any-iff : {n : ℕ} {f : ℕ → Bool} {X : ℕ → Type 0} → ((i : ℕ) → So (f i) ↔ X i) → So (any n f) ↔ ((i : ℕ) × (i < n) × X i)
+any-iff {n} {f} h = (λ e. let (i, l, p) = any-found f n e in (i, l, h i .0 p), λ s. any-of f n (s .0) (s .1) (h (s .0) .1 (s .2)))
 
 -- two searches that agree up to the first that passes
 pub any-same : (f g : ℕ → Bool) (n : ℕ) → ((i : ℕ) → i < n → ((j : ℕ) → j < i → f j ≡ false) → f i ≡ g i) → any n f ≡ any n g

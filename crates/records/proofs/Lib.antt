@@ -1,6 +1,10 @@
 -- Laws that callers' proofs cite, and those that several proofs here share.
 pub mod BoolLaws
 pub mod FiniteLaws
+pub mod ExecutableLaws
 pub mod RefusalLaws
+pub mod AcceptedLaws
 pub mod ConceptScanLaws
 pub mod StateScanLaws
+-- The twelve small states of document 01.
+pub mod Examples

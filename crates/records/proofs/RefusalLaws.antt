@@ -1,18 +1,14 @@
 -- The answers of the checks, by the first test that applies.
-use Prim.Native.Nat.{ℕ, _≤_}
+use Prim.Native.Nat.{ℕ}
 use mathlib.Core.Bool.{So, false}
 use mathlib.Core.List.{List}
 use mathlib.Core.Path.{_≡_, refl}
-use lib.Dec.{ltb}
-use borrow.Author.Tests.{ltb-false}
-use Rattle.records.specs.Layout.{entries, conceptLayout, maxTokens}
-use Rattle.records.proofs.BoolLaws.{or-false-left, or-false-right}
 use Rattle.records.specs.declared.schema.Signature.{Signature}
 use Rattle.records.specs.declared.schema.SchemaAnswer.the-variants as schema
 use Rattle.records.specs.declared.concept.ConceptAnswer.the-variants as concept
 use Rattle.records.specs.declared.state.StateAnswer.the-variants as state
 use Rattle.records.specs.SchemaRecord.{signatureOf}
-use Rattle.records.specs.Refusal.{misshapen, outside, refusal-1, refusal-2, schemaAnswer, refusal-3, refusal-4, refusal-5, refusal-6, conceptAnswer, refusal-7, refusal-8, refusal-9, refusal-10, stateAnswer}
+use Rattle.records.specs.Refusal.{refusal-1, refusal-2, schemaAnswer, refusal-3, refusal-4, refusal-5, refusal-6, conceptAnswer, refusal-7, refusal-8, refusal-9, refusal-10, stateAnswer}
 
 module _ (w : List ℕ) where
   pub answer-1 : So (refusal-1 w) → schema.BadShape ≡ schemaAnswer w
@@ -68,11 +64,3 @@ module _ (s : Signature) (w : List ℕ) where
   pub state-accepted : refusal-7 w ≡ false → refusal-8 s w ≡ false → refusal-9 w ≡ false → refusal-10 s w ≡ false → state.Accepted ≡ stateAnswer s w
   unfolding stateAnswer
   state-accepted e f g h = rw (e, f, g, h)
-
--- What an accepted record gives: sizes within their limits.
-
-pub tokens-few : (w : List ℕ) → refusal-3 w ≡ false → entries conceptLayout w ≤ maxTokens
-unfolding refusal-3
-tokens-few w e =
-    ltb-false _ _ (or-false-right (ltb (entries conceptLayout w) 1) (ltb maxTokens (entries conceptLayout w))
-    (or-false-left (outside 1 maxTokens (entries conceptLayout w)) (misshapen conceptLayout w) e))

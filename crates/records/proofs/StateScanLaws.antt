@@ -5,7 +5,7 @@ use mathlib.Core.Bool.{Bool, true, false, So, cond, not, _&&_, _||_, false≢tru
 use mathlib.Core.List.{List}
 use mathlib.Core.Path.{_≡_, refl, ap, sym, subst, _∙_}
 use mathlib.Core.Logic.{⊎-elim}
-use native.Mathlib.Nat.{not-suc-le-zero, eq-or-lt-of-le, le-of-suc-le-suc, le-of-eq}
+use native.Mathlib.Nat.{not-suc-le-zero, eq-or-lt-of-le, le-of-suc-le-suc, le-of-eq, le-of-lt}
 use native.Mathlib.Numerals.{add-one, sub-one}
 use native.Mathlib.Decide.{ℕ-discrete, decLt}
 use native.Mathlib.Omega.{arith}
@@ -63,8 +63,8 @@ module _ (w : List ℕ) (a : ℕ) (one : count (entries stateLayout w) (namesAt 
   pub name-is : (j : ℕ) → j < entries stateLayout w → So (namesAt w a j) → objectAt w j < objects w → stateOf w .names a ≡ objectAt w j
   unfolding stateOf says
   name-is j l p inside =
-      least-is (λ d. says w (constantKinds + a) d) (objects w) (objectAt w j) inside
-      (any-of (says-at (objectAt w j)) (entries stateLayout w) j l (and-both (namesAt w a j) _ p (eq-eqb (objectAt w j) (objectAt w j) refl)))
+      least-is (λ d. says w (constantKinds + a) d) (objects w) (objectAt w j) (le-of-lt inside)
+      (λ _. any-of (says-at (objectAt w j)) (entries stateLayout w) j l (and-both (namesAt w a j) _ p (eq-eqb (objectAt w j) (objectAt w j) refl)))
       (λ d m. none-any (says-at d) (entries stateLayout w) (λ i h. false-of _ (λ t. other d m i h t)))
     where
       says-at : ℕ → ℕ → Bool

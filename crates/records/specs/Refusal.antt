@@ -204,6 +204,16 @@ stateNumber state.BadFact = 8
 stateNumber state.BadOrder = 9
 stateNumber state.BadConstants = 10
 
+-- A record is accepted if it gets none of its refusals.
+abbrev pub AcceptedSchema : List ℕ → Type 0
+AcceptedSchema w = schemaAnswer w ≡ schema.Accepted (signatureOf w)
+
+abbrev pub AcceptedConcept : ℕ → Signature → List ℕ → Type 0
+AcceptedConcept limit s w = conceptAnswer limit s w ≡ concept.Accepted
+
+abbrev pub AcceptedState : Signature → List ℕ → Type 0
+AcceptedState s w = stateAnswer s w ≡ state.Accepted
+
 -- 11. The lent words (words of the caller's that an answer is written to) are fewer than it needs.
 unfoldable pub refusal-11 : ℕ → List ℕ → Bool
 refusal-11 needed lent = ltb (length lent) needed

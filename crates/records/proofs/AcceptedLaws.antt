@@ -1,0 +1,131 @@
+-- What an accepted record gives its readers. Each law takes the answer of the check, or the one refusal that it rests on.
+use Prim.Native.Nat.{ℕ, suc, _+_, _-_, _*_, _≤_, _<_}
+use mathlib.Core.Bool.{Bool, true, false, So, not, cond, _||_}
+use mathlib.Core.List.{List}
+use mathlib.Core.Path.{_≡_, refl, sym}
+use native.Mathlib.Omega.{arith}
+use lib.Dec.{ltb, leb, eqb}
+use lib.ListN.{length}
+use borrow.Author.Tests.{ltb-false, eqb-true, not-false}
+use Rattle.records.specs.declared.layout.Layout.{Layout}
+use Rattle.records.specs.declared.schema.Signature.{Signature}
+use Rattle.records.specs.declared.schema.SchemaAnswer.{SchemaAnswer}
+use Rattle.records.specs.declared.schema.SchemaAnswer.the-variants as schema
+use Rattle.records.specs.declared.concept.ConceptAnswer.{ConceptAnswer}
+use Rattle.records.specs.declared.concept.ConceptAnswer.the-variants as concept
+use Rattle.records.specs.declared.state.StateAnswer.{StateAnswer}
+use Rattle.records.specs.declared.state.StateAnswer.the-variants as state
+use Rattle.records.specs.Finite.{any, count}
+use Rattle.records.specs.Layout.{schemaLayout, conceptLayout, stateLayout, entries, lengthFor, maxClasses, maxAttributes, maxConstants, maxAxioms, maxTokens, maxObjects, maxFacts}
+use Rattle.records.specs.SchemaRecord.{signatureOf, schemaOf, axiomKind}
+use Rattle.records.specs.ConceptRecord.{pileAfter, tokenAt}
+use Rattle.records.specs.StateRecord.{objects, kindAt, objectAt, stateOf}
+use Rattle.records.specs.Refusal.{misshapen, outside, oversized, declares, faultyAxiom, refusal-1, refusal-2, schemaAnswer, AcceptedSchema, faultyToken, isConcept, steps, refusal-3, refusal-4, refusal-5, refusal-6, conceptAnswer, AcceptedConcept, faultyFact, ascends, descends, namesAt, shares, misnames, refusal-7, refusal-8, refusal-9, refusal-10, stateAnswer, AcceptedState}
+use Rattle.records.proofs.BoolLaws.{or-false-left, or-false-right}
+use Rattle.records.proofs.FiniteLaws.{any-none}
+
+-- The answer "accepted" is given only where no test applies.
+
+module _ (w : List ℕ) (ok : AcceptedSchema w) where
+  schema-none : (a b : Bool) → cond a schema.BadShape (cond b schema.BadAxiom (schema.Accepted (signatureOf w))) ≡ schema.Accepted (signatureOf w) → (a ≡ false) × (b ≡ false)
+  schema-none true b e = (cc, cc)
+  schema-none false true e = (cc, cc)
+  schema-none false false e = (refl, refl)
+
+  pub passes-1 : refusal-1 w ≡ false
+  unfolding schemaAnswer
+  passes-1 = schema-none (refusal-1 w) (refusal-2 w) ok .0
+
+  pub passes-2 : refusal-2 w ≡ false
+  unfolding schemaAnswer
+  passes-2 = schema-none (refusal-1 w) (refusal-2 w) ok .1
+
+concept-none : (a b c d : Bool) → cond a concept.BadShape (cond b concept.BadToken (cond c concept.BadPile (cond d concept.BadSteps concept.Accepted))) ≡ concept.Accepted → (a ≡ false) × (b ≡ false) × (c ≡ false) × (d ≡ false)
+concept-none true b c d e = (cc, cc, cc, cc)
+concept-none false true c d e = (cc, cc, cc, cc)
+concept-none false false true d e = (cc, cc, cc, cc)
+concept-none false false false true e = (cc, cc, cc, cc)
+concept-none false false false false e = (refl, refl, refl, refl)
+
+module _ (limit : ℕ) (s : Signature) (w : List ℕ) (ok : AcceptedConcept limit s w) where
+  passes-concept : (refusal-3 w ≡ false) × (refusal-4 s w ≡ false) × (refusal-5 w ≡ false) × (refusal-6 limit w ≡ false)
+  unfolding conceptAnswer
+  passes-concept = concept-none (refusal-3 w) (refusal-4 s w) (refusal-5 w) (refusal-6 limit w) ok
+
+  pub passes-3 : refusal-3 w ≡ false
+  passes-3 = passes-concept .0
+
+  pub passes-4 : refusal-4 s w ≡ false
+  passes-4 = passes-concept .1
+
+  pub passes-5 : refusal-5 w ≡ false
+  passes-5 = passes-concept .2
+
+  pub passes-6 : refusal-6 limit w ≡ false
+  passes-6 = passes-concept .3
+
+state-none : (a b c d : Bool) → cond a state.BadShape (cond b state.BadFact (cond c state.BadOrder (cond d state.BadConstants state.Accepted))) ≡ state.Accepted → (a ≡ false) × (b ≡ false) × (c ≡ false) × (d ≡ false)
+state-none true b c d e = (cc, cc, cc, cc)
+state-none false true c d e = (cc, cc, cc, cc)
+state-none false false true d e = (cc, cc, cc, cc)
+state-none false false false true e = (cc, cc, cc, cc)
+state-none false false false false e = (refl, refl, refl, refl)
+
+module _ (s : Signature) (w : List ℕ) (ok : AcceptedState s w) where
+  passes-state : (refusal-7 w ≡ false) × (refusal-8 s w ≡ false) × (refusal-9 w ≡ false) × (refusal-10 s w ≡ false)
+  unfolding stateAnswer
+  passes-state = state-none (refusal-7 w) (refusal-8 s w) (refusal-9 w) (refusal-10 s w) ok
+
+  pub passes-7 : refusal-7 w ≡ false
+  passes-7 = passes-state .0
+
+  pub passes-8 : refusal-8 s w ≡ false
+  passes-8 = passes-state .1
+
+  pub passes-9 : refusal-9 w ≡ false
+  passes-9 = passes-state .2
+
+  pub passes-10 : refusal-10 s w ≡ false
+  passes-10 = passes-state .3
+
+-- What each test that does not apply gives.
+
+pub axioms-few : (w : List ℕ) → refusal-1 w ≡ false → entries schemaLayout w ≤ maxAxioms
+unfolding refusal-1
+axioms-few w e = ltb-false maxAxioms (entries schemaLayout w) (or-false-right (ltb maxClasses (signatureOf w .classes) || ltb maxAttributes (signatureOf w .attributes) || ltb maxConstants (signatureOf w .constants)) _ (or-false-left (oversized (signatureOf w) (entries schemaLayout w)) _ e))
+
+pub axiom-declared : (w : List ℕ) → refusal-2 w ≡ false → (i : ℕ) → i < entries schemaLayout w → So (declares (signatureOf w) (schemaOf w .axiomAt i))
+unfolding refusal-2 faultyAxiom
+axiom-declared w e i l = not-false _ (or-false-right (outside 1 5 (axiomKind _)) _ (any-none (faultyAxiom (signatureOf w) w) (entries schemaLayout w) e i l))
+
+pub tokens-few : (w : List ℕ) → refusal-3 w ≡ false → entries conceptLayout w ≤ maxTokens
+unfolding refusal-3
+tokens-few w e = ltb-false maxTokens (entries conceptLayout w) (or-false-right (ltb (entries conceptLayout w) 1) _ (or-false-left (outside 1 maxTokens (entries conceptLayout w)) _ e))
+
+pub token-faultless : (s : Signature) (w : List ℕ) → refusal-4 s w ≡ false → (i : ℕ) → i < entries conceptLayout w → faultyToken s w i ≡ false
+unfolding refusal-4
+token-faultless s w e = any-none (faultyToken s w) (entries conceptLayout w) e
+
+pub pile-concept : (w : List ℕ) → refusal-5 w ≡ false → So (isConcept (pileAfter w (entries conceptLayout w)))
+unfolding refusal-5
+pile-concept w e = not-false _ e
+
+pub objects-few : (w : List ℕ) → refusal-7 w ≡ false → objects w ≤ maxObjects
+unfolding refusal-7
+objects-few w e = ltb-false maxObjects (objects w) (or-false-left _ (ltb maxFacts (entries stateLayout w)) (or-false-left _ (misshapen stateLayout w) e))
+
+pub facts-few : (w : List ℕ) → refusal-7 w ≡ false → entries stateLayout w ≤ maxFacts
+unfolding refusal-7
+facts-few w e = ltb-false maxFacts (entries stateLayout w) (or-false-right (ltb maxObjects (objects w)) _ (or-false-left _ (misshapen stateLayout w) e))
+
+pub fact-faultless : (s : Signature) (w : List ℕ) → refusal-8 s w ≡ false → (i : ℕ) → i < entries stateLayout w → faultyFact s w i ≡ false
+unfolding refusal-8
+fact-faultless s w e = any-none (faultyFact s w) (entries stateLayout w) e
+
+pub fact-ascends : (w : List ℕ) → refusal-9 w ≡ false → (i : ℕ) → i + 1 < entries stateLayout w → So (ascends w i)
+unfolding refusal-9
+fact-ascends w e i l = not-false _ (any-none (descends w) (entries stateLayout w - 1) e i (omega arith))
+
+pub constant-once : (s : Signature) (w : List ℕ) → refusal-10 s w ≡ false → (a : ℕ) → a < s .constants → count (entries stateLayout w) (namesAt w a) ≡ 1
+unfolding refusal-10
+constant-once s w e a l = eqb-true (count (entries stateLayout w) (namesAt w a)) 1 (not-false _ (or-false-left _ (any a (shares w a)) (any-none (misnames w) (s .constants) e a l)))
