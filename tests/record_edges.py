@@ -1,0 +1,229 @@
+#!/usr/bin/env python3
+"""The edges of document 01 for the record checks: each case is a record, its role, and the refusal that the document
+gives it (0: accepted), worked out by hand.
+
+  record_edges.py write   write the cases and the expected output into crates/record_edges
+  record_edges.py check   fail if what is written there differs from this table
+"""
+import pathlib
+import struct
+import sys
+
+CRATE = pathlib.Path(__file__).resolve().parent.parent / "crates" / "record_edges"
+ROLES = {"schema": 1, "query": 2, "view": 3, "state": 4}
+
+# Token sorts.
+CLASS, EVERYTHING, CONSTANT, BOTH, EMPTY, FORWARD, BACKWARD, REACHED, COMMON = range(1, 10)
+
+
+def schema(classes, attributes, constants, axioms=()):
+    left, right = zip(*axioms) if axioms else ((), ())
+    return [classes, attributes, constants, len(axioms), *left, *right]
+
+
+def concept(tokens, steps=None):
+    pairs = [t if isinstance(t, tuple) else (t, 0) for t in tokens]
+    counted = sum(sort in (FORWARD, BACKWARD) for sort, _ in pairs)
+    return [len(pairs), counted if steps is None else steps, *(s for s, _ in pairs), *(a for _, a in pairs)]
+
+
+def state(objects, facts):
+    return [objects, len(facts), *(left for left, _ in facts), *(right for _, right in facts)]
+
+
+def member(a, o):
+    return (a * 512 + o, 0)
+
+
+def pair(p, x, y):
+    return ((24 + p) * 512 + x, y)
+
+
+def name(a, o):
+    return ((32 + a) * 512 + o, 0)
+
+
+def axiom(kind, subject, right):
+    return (kind * 256 + subject, right)
+
+
+def steps(n):
+    """A path of n forward steps, reached."""
+    return [EMPTY] + [EVERYTHING, FORWARD] * n + [REACHED]
+
+
+def conjunction(n):
+    """n tokens, n odd: a class and its conjunctions with itself."""
+    return [CLASS] + [CLASS, BOTH] * ((n - 1) // 2)
+
+
+def full_state(extra):
+    """480 objects in 24 classes, a value of each of 8 attributes, 16 values more, 4 constants: 15,380 facts and extra."""
+    facts = [member(a, o) for a in range(24) for o in range(480)]
+    for p in range(8):
+        for o in range(480):
+            facts.append(pair(p, o, 0))
+            if p == 7 and o < 16 + extra:
+                facts.append(pair(p, o, 1))
+    return facts + [name(a, a) for a in range(4)]
+
+
+SUBCLASS = axiom(1, 0, 0)
+LARGE = schema(24, 8, 4)
+SMALL = schema(2, 1, 1)
+
+CASES = [
+    # 1: fewer than 4 words, a size above its limit, or a length other than 4 + 2n.
+    ("schema", [], 1),
+    ("schema", [0], 1),
+    ("schema", [0, 0, 0], 1),
+    ("schema", [0, 0, 0, 0], 0),
+    ("schema", [0, 0, 0, 0, 0], 1),
+    ("schema", schema(25, 8, 4), 1),
+    ("schema", schema(24, 9, 4), 1),
+    ("schema", schema(24, 8, 5), 1),
+    ("schema", schema(1, 0, 0, [SUBCLASS] * 96), 0),
+    ("schema", schema(1, 0, 0, [SUBCLASS] * 97), 1),
+    ("schema", schema(1, 0, 0, [SUBCLASS])[:-1], 1),
+    ("schema", schema(1, 0, 0, [SUBCLASS]) + [0], 1),
+    # 1 before 2: a size above its limit beside a bad axiom.
+    ("schema", schema(25, 0, 0, [axiom(0, 0, 0)]), 1),
+    # 2: a kind outside 1 to 5, or an undeclared class or attribute.
+    ("schema", schema(1, 1, 0, [axiom(0, 0, 0)]), 2),
+    ("schema", schema(1, 1, 0, [axiom(6, 0, 0)]), 2),
+    ("schema", schema(1, 1, 0, [SUBCLASS] * 95 + [axiom(6, 0, 0)]), 2),
+    ("schema", schema(1, 1, 0, [axiom(1, 1, 0)]), 2),
+    ("schema", schema(1, 1, 0, [axiom(1, 0, 1)]), 2),
+    ("schema", schema(1, 1, 0, [axiom(1, 0, 256)]), 2),
+    ("schema", schema(1, 1, 0, [axiom(2, 0, 256)]), 2),
+    ("schema", schema(1, 1, 0, [axiom(2, 0, 1)]), 2),
+    ("schema", schema(1, 1, 0, [axiom(2, 0, 0)]), 0),
+    ("schema", schema(1, 1, 0, [axiom(3, 0, 1)]), 2),
+    ("schema", schema(1, 1, 0, [axiom(3, 0, 256)]), 2),
+    ("schema", schema(1, 1, 0, [axiom(3, 0, 0), axiom(4, 0, 0)]), 0),
+    ("schema", schema(1, 1, 0, [axiom(4, 0, 1)]), 2),
+    ("schema", schema(1, 1, 0, [axiom(4, 0, 256)]), 2),
+    ("schema", schema(1, 1, 0, [axiom(5, 1, 0)]), 2),
+    ("schema", schema(1, 1, 0, [axiom(5, 0, 256)]), 2),
+    ("schema", schema(1, 1, 0, [axiom(5, 0, 1)]), 2),
+    ("schema", schema(1, 1, 0, [axiom(5, 0, 0)]), 0),
+    # Concepts under two classes, an attribute and a constant.
+    ("schema", SMALL, 0),
+    # 3: fewer than 2 words, n of 0 or above 64, or a length other than 2 + 2n.
+    ("query", [], 3),
+    ("query", [1], 3),
+    ("query", [0, 0], 3),
+    ("query", concept([CLASS]), 0),
+    ("query", concept([CLASS])[:-1], 3),
+    ("query", concept([CLASS]) + [0], 3),
+    ("query", concept(conjunction(63) + [REACHED]), 5),
+    ("query", concept(conjunction(61) + [EMPTY, REACHED, BOTH]), 0),
+    ("query", concept(conjunction(65)), 3),
+    ("view", [], 3),
+    # 3 before 4.
+    ("query", concept([10] * 65), 3),
+    # 4: a sort outside 1 to 9, an undeclared argument, or one other than 0 where there is none.
+    ("query", concept([0]), 4),
+    ("query", concept([10]), 4),
+    ("query", concept([(CLASS, 1)]), 0),
+    ("query", concept([(CLASS, 2)]), 4),
+    ("query", concept([(CONSTANT, 0)]), 0),
+    ("query", concept([(CONSTANT, 1)]), 4),
+    ("query", concept([EMPTY, EVERYTHING, (FORWARD, 1), REACHED]), 4),
+    ("query", concept([EMPTY, EVERYTHING, (BACKWARD, 1), REACHED]), 4),
+    ("query", concept([(EVERYTHING, 1)]), 4),
+    ("query", concept([CLASS, CLASS, (BOTH, 1)]), 4),
+    ("query", concept([(EMPTY, 1), REACHED]), 4),
+    ("query", concept([EMPTY, (REACHED, 1)]), 4),
+    ("query", concept([EMPTY, EMPTY, (COMMON, 1)]), 4),
+    # 4 before 5: the bad token stands after the pile has failed.
+    ("query", concept([BOTH, 10]), 4),
+    # 5: what is taken is not there or not of that sort, or not exactly one concept at the end.
+    ("query", concept([BOTH]), 5),
+    ("query", concept([CLASS, BOTH]), 5),
+    ("query", concept([EMPTY]), 5),
+    ("query", concept([CLASS, CLASS]), 5),
+    ("query", concept([CLASS, REACHED]), 5),
+    ("query", concept([EMPTY, CLASS, COMMON]), 5),
+    ("query", concept([CLASS, EMPTY, FORWARD, REACHED], steps=1), 5),
+    ("query", concept([EMPTY, EMPTY, BOTH]), 5),
+    ("query", concept([EMPTY, EMPTY, COMMON]), 0),
+    # 5 before 6: the count of steps is wrong too.
+    ("query", concept([CLASS, CLASS], steps=3), 5),
+    # 6: another count of steps, or more than the limit.
+    ("query", concept(steps(1), steps=0), 6),
+    ("query", concept(steps(1), steps=2), 6),
+    ("query", concept(steps(16)), 0),
+    ("query", concept(steps(17)), 6),
+    ("view", concept(steps(6)), 0),
+    ("view", concept(steps(7)), 6),
+    # 7: fewer than 2 words, a size above its limit, or a length other than 2 + 2n.
+    ("schema", schema(0, 0, 0), 0),
+    ("state", [], 7),
+    ("state", [0], 7),
+    ("state", [0, 0], 0),
+    ("state", [0, 0, 0], 7),
+    ("state", [480, 0], 0),
+    ("state", [481, 0], 7),
+    ("schema", LARGE, 0),
+    ("state", state(480, full_state(0)), 0),
+    ("state", state(480, full_state(1)), 7),
+    # 7 before 8.
+    ("state", state(481, [(65535, 0)]), 7),
+    # 8: a kind above 35, something undeclared, an object not below N, or a right word where no pair is meant.
+    ("schema", schema(2, 1, 0), 0),
+    ("state", state(2, [member(0, 1)]), 0),
+    ("state", state(2, [member(1, 0), member(2, 0)]), 8),
+    ("state", state(2, [member(0, 2)]), 8),
+    ("state", state(2, [(0, 1)]), 8),
+    ("state", state(2, [pair(0, 1, 1)]), 0),
+    ("state", state(2, [pair(1, 0, 0)]), 8),
+    ("state", state(2, [pair(0, 2, 0)]), 8),
+    ("state", state(2, [pair(0, 0, 2)]), 8),
+    ("state", state(2, [name(0, 0)]), 8),
+    ("state", state(2, [(36 * 512, 0)]), 8),
+    # 8 before 9: the bad fact stands after the order has failed.
+    ("state", state(2, [member(1, 0), member(0, 0), member(2, 0)]), 8),
+    # 9: the facts do not ascend strictly.
+    ("state", state(2, [member(0, 0), member(0, 0)]), 9),
+    ("state", state(2, [member(1, 0), member(0, 1)]), 9),
+    ("state", state(2, [pair(0, 0, 1), pair(0, 0, 0)]), 9),
+    ("state", state(2, [pair(0, 0, 0), pair(0, 0, 1)]), 0),
+    # 10: a declared constant has no object or several, or two constants have the same object.
+    ("schema", schema(1, 0, 2), 0),
+    ("state", state(2, []), 10),
+    ("state", state(2, [name(0, 0)]), 10),
+    ("state", state(2, [name(0, 0), name(0, 1), name(1, 1)]), 10),
+    ("state", state(2, [name(0, 1), name(1, 1)]), 10),
+    ("state", state(2, [name(0, 1), name(1, 0)]), 0),
+    # 9 before 10.
+    ("state", state(2, [name(1, 1), name(0, 1)]), 9),
+]
+
+
+def words(values):
+    return struct.pack(f"<{len(values)}H", *values)
+
+
+def made():
+    cases = b"".join(words([ROLES[role], len(record), *record]) for role, record, _ in CASES)
+    lines = "".join(f"{i} {role} {number}\n" for i, (role, _, number) in enumerate(CASES))
+    return {CRATE / "data" / "cases.bin": cases, CRATE / "stdout": lines.encode()}
+
+
+def main():
+    if sys.argv[1:] == ["write"]:
+        for path, content in made().items():
+            path.parent.mkdir(exist_ok=True)
+            path.write_bytes(content)
+        return 0
+    if sys.argv[1:] == ["check"]:
+        stale = [p.name for p, content in made().items() if not p.exists() or p.read_bytes() != content]
+        print(f"record_edges: {len(CASES)} cases" if not stale else f"record_edges: stale: {', '.join(stale)}")
+        return 1 if stale else 0
+    print(__doc__)
+    return 2
+
+
+if __name__ == "__main__":
+    sys.exit(main())
