@@ -5,10 +5,10 @@ use Rattle.records.proofs.concept.bad_shape.Statement.{statement}
 use Rattle.records.proofs.concept.bad_shape.Tie as tie
 
 tokens-requires : tie.Need-tokens-requires
-tokens-requires c κs = search needs
+tokens-requires c κs = tt
 
 concept-layout-requires : tie.Need-concept-layout-requires
-concept-layout-requires c κs = search needs
+concept-layout-requires c κs = tt
 
 misshapen-requires : tie.Need-misshapen-requires
 misshapen-requires c κs = search needs

@@ -20,13 +20,13 @@ abbrev μ-loop : tie.MeasureT-loop
 μ-loop limit s words n pile₀ steps₀ i₀ pile steps i = n - i
 
 bad-shape-requires : tie.Need-bad-shape-requires Inv-loop μ-loop
-bad-shape-requires c κs = search needs
+bad-shape-requires c κs = tt
 
 returns : tie.Need-returns Inv-loop μ-loop
 returns c = answer-3 _ _ _ (sym (c .before .bad-shape .ensures) ∙ c .if1 .taken)
 
 tokens-requires : tie.Need-tokens-requires Inv-loop μ-loop
-tokens-requires c κs = search needs
+tokens-requires c κs = tt
 
 loop-holds : tie.Need-loop-holds Inv-loop μ-loop
 loop-holds c = (omega arith, scanned-none _ _)
@@ -50,7 +50,7 @@ push-requires c κs =
     (omega (arith, tokens-few (c .before .before .before .before .before .before .before .before .before .args .words .now) (sym (c .before .before .before .before .before .before .before .bad-shape .ensures) ∙ c .before .before .before .before .before .before .if1 .left), c .before .before .before .before .before .tokens .ensures .value))
 
 is-step-requires : tie.Need-is-step-requires Inv-loop μ-loop
-is-step-requires c κs = search needs
+is-step-requires c κs = tt
 
 cast-steps : tie.Need-cast-steps Inv-loop μ-loop
 cast-steps c = tt
@@ -73,7 +73,7 @@ loop-again c = (
 )
 
 is-concept-requires : tie.Need-is-concept-requires Inv-loop μ-loop
-is-concept-requires c κs = search needs
+is-concept-requires c κs = tt
 
 returns-3 : tie.Need-returns-3 Inv-loop μ-loop
 returns-3 c =
@@ -84,7 +84,7 @@ returns-3 c =
     answer-5 _ _ _ (sym (c .before .before .before .before .before .before .bad-shape .ensures) ∙ c .before .before .before .before .before .if1 .left) (scanned-4 _ _ z) (scanned-5 _ _ z ∙ rw (← (c .before .is-concept .ensures)) (c .if3 .taken))
 
 word-requires : tie.Need-word-requires Inv-loop μ-loop
-word-requires c κs = search needs
+word-requires c κs = tt
 
 returns-4 : tie.Need-returns-4 Inv-loop μ-loop
 returns-4 c =

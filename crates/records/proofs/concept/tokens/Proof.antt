@@ -1,13 +1,12 @@
 -- The entries of the record.
-use borrow.Author.Needs.{needs}
 use Rattle.records.proofs.concept.tokens.Statement.{statement}
 use Rattle.records.proofs.concept.tokens.Tie as tie
 
 concept-layout-requires : tie.Need-concept-layout-requires
-concept-layout-requires c κs = search needs
+concept-layout-requires c κs = tt
 
 entries-requires : tie.Need-entries-requires
-entries-requires c κs = search needs
+entries-requires c κs = tt
 
 returns : tie.Need-returns
 returns c =

@@ -1,11 +1,10 @@
 -- The size word that the layout names.
 use Rattle.records.specs.Layout.{entries, sizeAt}
-use borrow.Author.Needs.{needs}
 use Rattle.records.proofs.layout.entries.Statement.{statement}
 use Rattle.records.proofs.layout.entries.Tie as tie
 
 word-requires : tie.Need-word-requires
-word-requires c κs = search needs
+word-requires c κs = tt
 
 returns : tie.Need-returns
 unfolding entries sizeAt

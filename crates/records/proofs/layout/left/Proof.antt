@@ -8,7 +8,7 @@ add-word : tie.Need-add-word
 add-word c = search needs
 
 word-requires : tie.Need-word-requires
-word-requires c κs = search needs
+word-requires c κs = tt
 
 returns : tie.Need-returns
 unfolding leftAt

@@ -6,7 +6,7 @@ use Rattle.records.proofs.layout.misshapen.Statement.{statement}
 use Rattle.records.proofs.layout.misshapen.Tie as tie
 
 entries-requires : tie.Need-entries-requires
-entries-requires c κs = search needs
+entries-requires c κs = tt
 
 mul-result : tie.Need-mul-result
 mul-result c = search needs

@@ -5,7 +5,7 @@ use Rattle.records.proofs.layout.right.Statement.{statement}
 use Rattle.records.proofs.layout.right.Tie as tie
 
 entries-requires : tie.Need-entries-requires
-entries-requires c κs = search needs
+entries-requires c κs = tt
 
 add-word : tie.Need-add-word
 add-word c = search needs
@@ -14,7 +14,7 @@ add-word-2 : tie.Need-add-word-2
 add-word-2 c = search needs
 
 word-requires : tie.Need-word-requires
-word-requires c κs = search needs
+word-requires c κs = tt
 
 returns : tie.Need-returns
 unfolding rightAt

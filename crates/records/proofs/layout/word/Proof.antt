@@ -13,7 +13,7 @@ shared-slice-read-wide : tie.Need-shared-slice-read-wide
 shared-slice-read-wide c = search needs
 
 wide-requires : tie.Need-wide-requires
-wide-requires c κs = search needs
+wide-requires c κs = tt
 
 returns : tie.Need-returns
 returns c = record { value = search needs; word = omega (arith, c .before .shared-slice-known2 .given (c .before .before .before .before .args .i)) }

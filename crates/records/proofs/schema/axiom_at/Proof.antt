@@ -5,19 +5,19 @@ use Rattle.records.proofs.schema.axiom_at.Statement.{statement}
 use Rattle.records.proofs.schema.axiom_at.Tie as tie
 
 schema-layout-requires : tie.Need-schema-layout-requires
-schema-layout-requires c κs = search needs
+schema-layout-requires c κs = tt
 
 left-requires : tie.Need-left-requires
 left-requires c κs = search needs
 
 schema-layout-requires-2 : tie.Need-schema-layout-requires-2
-schema-layout-requires-2 c κs = search needs
+schema-layout-requires-2 c κs = tt
 
 right-requires : tie.Need-right-requires
 right-requires c κs = search needs
 
 axiom-of-requires : tie.Need-axiom-of-requires
-axiom-of-requires c κs = search needs
+axiom-of-requires c κs = tt
 
 returns : tie.Need-returns
 unfolding schemaOf

@@ -1,13 +1,12 @@
 -- The entries of the record.
-use borrow.Author.Needs.{needs}
 use Rattle.records.proofs.schema.axioms.Statement.{statement}
 use Rattle.records.proofs.schema.axioms.Tie as tie
 
 schema-layout-requires : tie.Need-schema-layout-requires
-schema-layout-requires c κs = search needs
+schema-layout-requires c κs = tt
 
 entries-requires : tie.Need-entries-requires
-entries-requires c κs = search needs
+entries-requires c κs = tt
 
 returns : tie.Need-returns
 returns c =

@@ -5,16 +5,16 @@ use Rattle.records.proofs.schema.bad_shape.Statement.{statement}
 use Rattle.records.proofs.schema.bad_shape.Tie as tie
 
 axioms-requires : tie.Need-axioms-requires
-axioms-requires c κs = search needs
+axioms-requires c κs = tt
 
 signature-of-requires : tie.Need-signature-of-requires
-signature-of-requires c κs = search needs
+signature-of-requires c κs = tt
 
 oversized-requires : tie.Need-oversized-requires
-oversized-requires c κs = search needs
+oversized-requires c κs = tt
 
 schema-layout-requires : tie.Need-schema-layout-requires
-schema-layout-requires c κs = search needs
+schema-layout-requires c κs = tt
 
 misshapen-requires : tie.Need-misshapen-requires
 misshapen-requires c κs = search needs

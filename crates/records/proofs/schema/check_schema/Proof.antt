@@ -20,16 +20,16 @@ abbrev μ-loop : tie.MeasureT-loop
 μ-loop words s n i₀ i = n - i
 
 bad-shape-requires : tie.Need-bad-shape-requires Inv-loop μ-loop
-bad-shape-requires c κs = search needs
+bad-shape-requires c κs = tt
 
 returns : tie.Need-returns Inv-loop μ-loop
 returns c = answer-1 _ (sym (c .before .bad-shape .ensures) ∙ c .if1 .taken)
 
 signature-of-requires : tie.Need-signature-of-requires Inv-loop μ-loop
-signature-of-requires c κs = search needs
+signature-of-requires c κs = tt
 
 axioms-requires : tie.Need-axioms-requires Inv-loop μ-loop
-axioms-requires c κs = search needs
+axioms-requires c κs = tt
 
 loop-holds : tie.Need-loop-holds Inv-loop μ-loop
 loop-holds c = (omega arith, any-zero _)

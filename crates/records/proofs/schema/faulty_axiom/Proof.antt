@@ -6,7 +6,7 @@ use Rattle.records.proofs.schema.faulty_axiom.Statement.{statement}
 use Rattle.records.proofs.schema.faulty_axiom.Tie as tie
 
 schema-layout-requires : tie.Need-schema-layout-requires
-schema-layout-requires c κs = search needs
+schema-layout-requires c κs = tt
 
 left-requires : tie.Need-left-requires
 left-requires c κs = search needs
@@ -15,7 +15,7 @@ axiom-at-requires : tie.Need-axiom-at-requires
 axiom-at-requires c κs = search needs
 
 declares-requires : tie.Need-declares-requires
-declares-requires c κs = search needs
+declares-requires c κs = tt
 
 returns : tie.Need-returns
 unfolding faultyAxiom axiomKind

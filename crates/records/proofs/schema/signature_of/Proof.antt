@@ -1,18 +1,17 @@
 -- The first three size words.
 use Rattle.records.specs.Layout.{sizeAt}
 use Rattle.records.specs.SchemaRecord.{signatureOf}
-use borrow.Author.Needs.{needs}
 use Rattle.records.proofs.schema.signature_of.Statement.{statement}
 use Rattle.records.proofs.schema.signature_of.Tie as tie
 
 word-requires : tie.Need-word-requires
-word-requires c κs = search needs
+word-requires c κs = tt
 
 word-requires-2 : tie.Need-word-requires-2
-word-requires-2 c κs = search needs
+word-requires-2 c κs = tt
 
 word-requires-3 : tie.Need-word-requires-3
-word-requires-3 c κs = search needs
+word-requires-3 c κs = tt
 
 returns : tie.Need-returns
 unfolding signatureOf sizeAt

@@ -6,13 +6,13 @@ use Rattle.records.proofs.state.ascends.Statement.{statement}
 use Rattle.records.proofs.state.ascends.Tie as tie
 
 state-layout-requires : tie.Need-state-layout-requires
-state-layout-requires c κs = search needs
+state-layout-requires c κs = tt
 
 left-requires : tie.Need-left-requires
 left-requires c κs = search needs
 
 state-layout-requires-2 : tie.Need-state-layout-requires-2
-state-layout-requires-2 c κs = search needs
+state-layout-requires-2 c κs = tt
 
 add-left : tie.Need-add-left
 add-left c = search needs
@@ -21,13 +21,13 @@ left-requires-2 : tie.Need-left-requires-2
 left-requires-2 c κs = search needs
 
 state-layout-requires-3 : tie.Need-state-layout-requires-3
-state-layout-requires-3 c κs = search needs
+state-layout-requires-3 c κs = tt
 
 right-requires : tie.Need-right-requires
 right-requires c κs = search needs
 
 state-layout-requires-4 : tie.Need-state-layout-requires-4
-state-layout-requires-4 c κs = search needs
+state-layout-requires-4 c κs = tt
 
 add-right : tie.Need-add-right
 add-right c = search needs

@@ -5,13 +5,13 @@ use Rattle.records.proofs.state.bad_shape.Statement.{statement}
 use Rattle.records.proofs.state.bad_shape.Tie as tie
 
 facts-requires : tie.Need-facts-requires
-facts-requires c κs = search needs
+facts-requires c κs = tt
 
 objects-requires : tie.Need-objects-requires
-objects-requires c κs = search needs
+objects-requires c κs = tt
 
 state-layout-requires : tie.Need-state-layout-requires
-state-layout-requires c κs = search needs
+state-layout-requires c κs = tt
 
 misshapen-requires : tie.Need-misshapen-requires
 misshapen-requires c κs = search needs

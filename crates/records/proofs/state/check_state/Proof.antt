@@ -19,13 +19,13 @@ abbrev μ-loop : tie.MeasureT-loop
 μ-loop s words n ascending₀ counts₀ named₀ i₀ ascending counts named i = n - i
 
 bad-shape-requires : tie.Need-bad-shape-requires Inv-loop μ-loop
-bad-shape-requires c κs = search needs
+bad-shape-requires c κs = tt
 
 returns : tie.Need-returns Inv-loop μ-loop
 returns c = answer-7 _ _ (sym (c .before .bad-shape .ensures) ∙ c .if1 .taken)
 
 facts-requires : tie.Need-facts-requires Inv-loop μ-loop
-facts-requires c κs = search needs
+facts-requires c κs = tt
 
 loop-holds : tie.Need-loop-holds Inv-loop μ-loop
 loop-holds c = (omega arith, kept-none _ _)
@@ -47,7 +47,7 @@ kind-at-requires : tie.Need-kind-at-requires Inv-loop μ-loop
 kind-at-requires c κs = search needs
 
 slot-requires : tie.Need-slot-requires Inv-loop μ-loop
-slot-requires c κs = search needs
+slot-requires c κs = tt
 
 mul-counts : tie.Need-mul-counts Inv-loop μ-loop
 mul-counts c = search needs

@@ -1,13 +1,12 @@
 -- The entries of the record.
-use borrow.Author.Needs.{needs}
 use Rattle.records.proofs.state.facts.Statement.{statement}
 use Rattle.records.proofs.state.facts.Tie as tie
 
 state-layout-requires : tie.Need-state-layout-requires
-state-layout-requires c κs = search needs
+state-layout-requires c κs = tt
 
 entries-requires : tie.Need-entries-requires
-entries-requires c κs = search needs
+entries-requires c κs = tt
 
 returns : tie.Need-returns
 returns c =

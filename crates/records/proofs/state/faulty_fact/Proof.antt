@@ -5,7 +5,7 @@ use Rattle.records.proofs.state.faulty_fact.Statement.{statement}
 use Rattle.records.proofs.state.faulty_fact.Tie as tie
 
 objects-requires : tie.Need-objects-requires
-objects-requires c κs = search needs
+objects-requires c κs = tt
 
 kind-at-requires : tie.Need-kind-at-requires
 kind-at-requires c κs = search needs
@@ -14,16 +14,16 @@ object-at-requires : tie.Need-object-at-requires
 object-at-requires c κs = search needs
 
 state-layout-requires : tie.Need-state-layout-requires
-state-layout-requires c κs = search needs
+state-layout-requires c κs = tt
 
 right-requires : tie.Need-right-requires
 right-requires c κs = search needs
 
 declares-kind-requires : tie.Need-declares-kind-requires
-declares-kind-requires c κs = search needs
+declares-kind-requires c κs = tt
 
 suits-kind-requires : tie.Need-suits-kind-requires
-suits-kind-requires c κs = search needs
+suits-kind-requires c κs = tt
 
 returns : tie.Need-returns
 unfolding faultyFact

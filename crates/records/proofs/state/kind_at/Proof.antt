@@ -5,7 +5,7 @@ use Rattle.records.proofs.state.kind_at.Statement.{statement}
 use Rattle.records.proofs.state.kind_at.Tie as tie
 
 state-layout-requires : tie.Need-state-layout-requires
-state-layout-requires c κs = search needs
+state-layout-requires c κs = tt
 
 left-requires : tie.Need-left-requires
 left-requires c κs = search needs

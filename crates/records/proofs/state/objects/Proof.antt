@@ -1,12 +1,11 @@
 -- The first size word.
 use Rattle.records.specs.Layout.{sizeAt}
 use Rattle.records.specs.StateRecord.{objects}
-use borrow.Author.Needs.{needs}
 use Rattle.records.proofs.state.objects.Statement.{statement}
 use Rattle.records.proofs.state.objects.Tie as tie
 
 word-requires : tie.Need-word-requires
-word-requires c κs = search needs
+word-requires c κs = tt
 
 returns : tie.Need-returns
 unfolding objects sizeAt

@@ -53,7 +53,7 @@ enum-told-8 : tie.Need-enum-told-8
 enum-told-8 c = search needs
 
 reach-requires : tie.Need-reach-requires
-reach-requires c κs = search needs
+reach-requires c κs = tt
 
 enum-told-9 : tie.Need-enum-told-9
 enum-told-9 c = search needs
