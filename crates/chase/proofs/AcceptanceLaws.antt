@@ -1,0 +1,84 @@
+-- Accepted records make a well-formed task: they name what is declared, and a concept has the steps that its record counts.
+use Prim.Native.Nat.{ℕ, zero, _≤_, _<_}
+use native.Mathlib.Omega.{arith}
+use mathlib.Core.Bool.{Bool, true, false, So, not, _&&_, _||_, false≢true}
+use mathlib.Core.List.{List}
+use mathlib.Core.Path.{_≡_, refl, sym, ap, _∙_}
+use lib.Dec.{eqb, ltb}
+use borrow.Author.Tests.{ltb-true, ltb-false, not-false}
+use Rattle.records.specs.declared.schema.Axiom.{Axiom}
+use Rattle.records.specs.declared.schema.Axiom.the-variants.{Subclass, Typing, Necessary, Single, Relates}
+use Rattle.records.specs.declared.schema.Signature.{Signature}
+use Rattle.records.specs.Finite.{any, count}
+use Rattle.records.specs.Layout.{schemaLayout, conceptLayout, sizeAt, entries, leftAt, rightAt}
+use Rattle.records.specs.SchemaRecord.{signatureOf, axiomKind, schemaOf}
+use Rattle.records.specs.ConceptRecord.{tokenAt, pileAfter, conceptOf}
+use Rattle.records.specs.Refusal.{outside, declares, suits, isConcept, steps, faultyAxiom, faultyToken, refusal-2, refusal-4, refusal-5, refusal-6}
+use Rattle.chase.specs.Steps.{conceptSteps}
+use Rattle.chase.specs.Declared.{DeclaredAxiom}
+use Rattle.chase.specs.Task.{WellFormed, taskOf}
+use Rattle.chase.specs.Tokens.{startOf, HasConcept, stepNumber}
+use Rattle.chase.proofs.TestLaws.{and-parts, or-false}
+use Rattle.chase.proofs.CountLaws.{any-of}
+use Rattle.chase.proofs.TokenLaws.{number-concept, declared-concept, whole-concept}
+
+declares-is : (s : Signature) (x : Axiom) → So (declares s x) → DeclaredAxiom s x
+declares-is s (Subclass A B) h =
+    let k = and-parts (ltb A (s .classes)) (ltb B (s .classes)) h in (ltb-true _ _ (k .0), ltb-true _ _ (k .1))
+declares-is s (Typing A P B) h =
+    let k = and-parts (ltb A (s .classes) && ltb P (s .attributes)) (ltb B (s .classes)) h in
+    let l = and-parts (ltb A (s .classes)) (ltb P (s .attributes)) (k .0) in
+    (ltb-true _ _ (l .0), ltb-true _ _ (l .1), ltb-true _ _ (k .1))
+declares-is s (Necessary A P) h =
+    let k = and-parts (ltb A (s .classes)) (ltb P (s .attributes)) h in (ltb-true _ _ (k .0), ltb-true _ _ (k .1))
+declares-is s (Single A P) h =
+    let k = and-parts (ltb A (s .classes)) (ltb P (s .attributes)) h in (ltb-true _ _ (k .0), ltb-true _ _ (k .1))
+declares-is s (Relates P A B) h =
+    let k = and-parts (ltb P (s .attributes) && ltb A (s .classes)) (ltb B (s .classes)) h in
+    let l = and-parts (ltb P (s .attributes)) (ltb A (s .classes)) (k .0) in
+    (ltb-true _ _ (l .0), ltb-true _ _ (l .1), ltb-true _ _ (k .1))
+
+-- where no number fails, each passes
+none-fails : (f g : ℕ → Bool) (n i : ℕ) → any n (λ j. f j || not (g j)) ≡ false → i < n → So (g i)
+none-fails f g n i q h = go (f i || not (g i)) refl
+  where
+    go : (b : Bool) → f i || not (g i) ≡ b → So (g i)
+    go true e = absurd (false≢true (sym q ∙ any-of (λ j. f j || not (g j)) n i h e))
+    go false e = not-false (g i) (or-false (f i) (not (g i)) e .1)
+
+-- a concept whose record is not refused for its pile
+module _ (w : List ℕ) (pile : refusal-5 w ≡ false) where
+  pub accepted-concept : HasConcept w (entries conceptLayout w) × (startOf w (entries conceptLayout w) 1 ≡ zero)
+  unfolding refusal-5
+  accepted-concept = whole-concept w (entries conceptLayout w) (not-false (isConcept (pileAfter w (entries conceptLayout w))) pile)
+
+  pub accepted-steps : conceptSteps (conceptOf w) ≡ steps w
+  unfolding conceptOf steps count
+  accepted-steps =
+      let n = entries conceptLayout w in
+      omega (arith, number-concept w n (accepted-concept .0), ap (stepNumber w) (accepted-concept .1))
+
+  pub accepted-limit : (limit : ℕ) → refusal-6 limit w ≡ false → conceptSteps (conceptOf w) ≤ limit
+  unfolding refusal-6
+  accepted-limit limit q =
+      omega (arith, accepted-steps, ltb-false limit (steps w) (or-false (not (eqb (steps w) (sizeAt w 1))) (ltb limit (steps w)) q .1))
+
+pub accepted-formed : (schema query view : List ℕ) → refusal-2 schema ≡ false → refusal-4 (signatureOf schema) query ≡ false
+    → refusal-5 query ≡ false
+    → WellFormed (taskOf schema query view)
+unfolding taskOf schemaOf refusal-2 refusal-4 faultyAxiom faultyToken conceptOf
+accepted-formed schema query view a b c =
+    record {
+      axioms = λ i h.
+          declares-is (signatureOf schema) (schemaOf schema .axiomAt i)
+          (none-fails (λ i. outside 1 5 (axiomKind (leftAt schemaLayout schema i)))
+          (λ i. declares (signatureOf schema) (schemaOf schema .axiomAt i))
+          (entries schemaLayout schema) i a h);
+      query =
+          declared-concept query (signatureOf schema) (entries conceptLayout query)
+          (λ i h.
+          none-fails (λ i. outside 1 9 (leftAt conceptLayout query i))
+          (λ i. suits (signatureOf schema) (tokenAt query i) (rightAt conceptLayout query i))
+          (entries conceptLayout query) i b h)
+          (accepted-concept query c .0);
+    }

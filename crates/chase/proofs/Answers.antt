@@ -1,0 +1,247 @@
+-- What the model answers. The candidate is a finished chase (finished), so its start decides: a clash means held, and so does
+-- a start in the view; otherwise the candidate is a counterexample. The candidate has at most 463 objects.
+use Prim.Native.Nat.{ℕ, zero, suc, _≤_, _<_}
+use native.Mathlib.Omega.{arith}
+use native.Mathlib.Decide.{decLt}
+use mathlib.Core.Bool.{Bool, true, false, So, cond, false≢true}
+use mathlib.Core.Logic.{⊎-elim}
+use mathlib.Core.List.{[]}
+use mathlib.Core.Path.{_≡_, refl, sym, ap, subst, _∙_}
+use lib.Dec.{ltb}
+use lib.ListN.{List·getD-eq-default}
+use borrow.Author.Tests.{eqb-true, eq-eqb, lt-ltb, ltb-true}
+use Rattle.records.specs.Finite.{count}
+use Rattle.records.specs.State.{State, Related}
+use Rattle.records.specs.Schema.{Schema}
+use Rattle.records.specs.Semantics.{In}
+use Rattle.records.specs.Subsumption.{Counterexample, Held}
+use Rattle.chase.specs.Steps.{conceptSteps}
+use Rattle.chase.specs.ClassSet.{has}
+use Rattle.chase.specs.Task.{Task, WellFormed, nodes, startNode, constantNode, asked}
+use Rattle.chase.specs.Primary.{Prime, repOf, setOf, primary, clash}
+use Rattle.chase.specs.Ground.{Ground, live, objectOf, renumber, groundOf, ground}
+use Rattle.chase.specs.Forest.{Forest, bare, size, classesOf, lacks}
+use Rattle.chase.specs.Closing.{closed}
+use Rattle.chase.specs.Candidate.{links, lacking, objects, chased, candidateOf, forest, candidate, first}
+use Rattle.chase.proofs.TestLaws.{cond-elim, or-left}
+use Rattle.chase.proofs.All.{all-map, all-zip, all-unmapped}
+use Rattle.chase.proofs.ClosureLaws.{needs-sound, image-sound}
+use Rattle.chase.proofs.FactsLaws.{Meets, Assigns, meets-in}
+use Rattle.chase.proofs.ClosingLaws.{pair-kept}
+use Rattle.chase.proofs.Consequence.{Follows, fitting}
+use Rattle.chase.proofs.Extension.{Made}
+use Rattle.chase.proofs.Done.{Done, opened, held}
+use Rattle.chase.proofs.CountLaws.{count-le, any-is, any-of}
+use Rattle.chase.proofs.PrimeLaws.{Ok}
+use Rattle.chase.proofs.PrimaryLaws.{within, Closed, primary-ok, primary-closed}
+use Rattle.chase.proofs.GroundLaws.{Grounded, nodeOf, object-inside, object-set, object-rep, rep-object, grounded}
+use Rattle.chase.proofs.ForestLaws.{Grown, ground-size, kid-inside, kid-before, child}
+use Rattle.chase.proofs.WalkLaws.{Cov, walks-cover}
+use Rattle.chase.proofs.SizeLaws.{walks-size}
+use Rattle.chase.proofs.CandidateLaws.{link-elim, edges-linked, ground-classes, pair-is, link-inside, room, closing-room, candidate-chased}
+use Rattle.chase.proofs.Coverage.{covered}
+
+module _ (t : Task) (formed : WellFormed t) (G : Ground) (node : ℕ → ℕ) (T : Forest) (ok : Grounded t G node)
+    (valid : Grown (t .schema) G bare T) where
+  abbrev S : Schema
+  S = t .schema
+
+  abbrev F : State
+  F = chased (t .schema) G T
+
+  -- an object below the closing one is named by declared constants alone
+  names-is : (a d : ℕ) → d < size G T → d ≡ F .names a → (a < S .signature .constants) × (d ≡ G .constants a)
+  names-is a d h =
+      cond-elim (λ v. d ≡ v → (a < S .signature .constants) × (d ≡ G .constants a)) (ltb a (S .signature .constants))
+      (λ b q. (ltb-true a (S .signature .constants) b, q)) (λ _ q. absurd (omega (arith, room S G T)))
+
+  names-of : (a : ℕ) → a < S .signature .constants → F .names a ≡ G .constants a
+  names-of a h = ap (λ (b : Bool). cond b (G .constants a) (objects S G T)) (lt-ltb a (S .signature .constants) h)
+
+  -- a made object, as the extension asks for it
+  made-is : (k : ℕ) → G .objects ≤ k → k < size G T → Made S F k
+  made-is k h l =
+      let c = child S G valid k h l in
+      record {
+        maker = c .maker;
+        attribute = c .attribute;
+        before = c .before;
+        needed = λ I legal d hd m. needs-sound S I legal (classesOf S G T (c .maker)) (c .attribute) d hd m (c .needed);
+        forced = λ I legal d hd m e he r A a.
+            image-sound S (formed .axioms) I legal (classesOf S G T (c .maker)) (c .attribute) d e hd he m r A
+            (subst (λ (s : ℕ). So (has s A)) (c .classes) a);
+        only = λ P d le r. ⊎-elim (λ q. absurd (omega (arith, link-inside t G node ok P d k q .1))) (c .only P d) (pair-is S G T P d k r);
+        leaf = λ P d le r.
+            ⊎-elim (λ q. absurd (omega (arith, link-inside t G node ok P k d q .0)))
+            (λ q. absurd (omega (arith, kid-before S G valid P k d q))) (pair-is S G T P k d r);
+        unnamed = λ a q. let n = names-is a k l q in omega (arith, n .1, ok .constants a (n .0));
+      }
+
+  module _ (apart : (a b : ℕ) → a < S .signature .constants → b < S .signature .constants → G .constants a ≡ G .constants b → a ≡ b)
+      (embeds : In (candidateOf S G T) (t .query) (G .start)) (cov : (p : ℕ) → p < G .objects → Cov S G T (t .view) p []) where
+    done : Done t F (lacks S G T) (G .objects) (size G T) (G .start) node
+    done =
+        record {
+          constants =
+              record {
+                inside = λ a h. omega (arith, names-of a h, ok .constants a h, ground-size S G valid, room S G T);
+                apart = λ a b h k q. apart a b h k (sym (names-of a h) ∙ q ∙ names-of b k);
+              };
+          closes = closing-room t formed G node T ok valid;
+          chased = candidate-chased t formed G node T ok valid;
+          order = ground-size S G valid;
+          room = room S G T;
+          begins = ok .start;
+          embeds = embeds;
+          root = ok .root;
+          members = λ A d h a. ok .members A d h (subst (λ (c : ℕ). So (has c A)) (ground-classes S G T valid d h) a);
+          pairs = λ P d e h k r.
+              ⊎-elim (link-elim G (λ P d e. Follows t λ I g. Related I P (g (node d)) (g (node e))) (ok .pairs) P d e)
+              (λ q. absurd (omega (arith, kid-inside S G valid P d e q .0))) (pair-is S G T P d e r);
+          names = λ a d h q.
+              let n = names-is a d (omega (arith, ground-size S G valid)) q in
+              subst (λ (i : ℕ). Follows t λ I g. g (node i) ≡ I .names a) (sym (n .1)) (ok .names a (n .0));
+          made = made-is;
+          covers = covered t G node T ok valid (t .view) cov (G .start) (ok .start);
+        }
+
+-- the query's nodes, as objects of the candidate, meet its facts
+module _ (t : Task) (formed : WellFormed t) (x : Prime) (ok : Ok t x) (closed : Closed t x) (T : Forest)
+    (valid : Grown (t .schema) (groundOf t x) bare T) where
+  abbrev K : State
+  K = candidateOf (t .schema) (groundOf t x) T
+
+  abbrev part : Grounded t (groundOf t x) (nodeOf t x)
+  part = grounded t formed x ok closed
+
+  object-room : (d : ℕ) → d < groundOf t x .objects → d < K .size
+  object-room d h = omega (arith, ground-size (t .schema) (groundOf t x) valid, room (t .schema) (groundOf t x) T)
+
+  object-beyond : (n : ℕ) → nodes t ≤ n → objectOf x n ≡ zero
+  unfolding objectOf repOf count
+  object-beyond n h = ap (λ (r : ℕ). count r (live x)) (List·getD-eq-default (x .reps) 0 (omega (arith, ok .reps)))
+
+  assigns : Assigns (t .schema .signature) (suc (conceptSteps (t .query))) K (objectOf x)
+  unfolding groundOf
+  assigns =
+      record {
+        inside = λ n.
+            elim (decLt n (nodes t)) [
+              | yes h ↦ object-room (objectOf x n) (object-inside t x ok n h)
+              | no k ↦ omega (
+                arith,
+                object-beyond n (omega arith),
+                object-room (objectOf x (startNode t))
+                    (object-inside t x ok (startNode t) (omega arith)),
+              )
+            ];
+        constants = λ a h. sym (names-of t formed (groundOf t x) (nodeOf t x) T part valid a h);
+      }
+
+  object-classes : (n : ℕ) → n < nodes t → classesOf (t .schema) (groundOf t x) T (objectOf x n) ≡ setOf x n
+  object-classes n h = ground-classes (t .schema) (groundOf t x) T valid (objectOf x n) (object-inside t x ok n h) ∙ object-set t x ok n h
+
+  meets : Meets K (objectOf x) (asked t)
+  unfolding groundOf
+  meets =
+      let G = groundOf t x in
+      record {
+        members =
+            all-zip (λ f w h. subst (λ (c : ℕ). So (has c (f .class))) (sym (object-classes (f .node) (w .1))) h) (asked t .members)
+            (within t formed .members) (closed .members);
+        equations = all-map (λ f. rep-object t x ok (f .left) (f .right)) (asked t .equations) (closed .equations);
+        edges =
+            all-map
+            (λ f h.
+            pair-kept (chased (t .schema) G T) (lacks (t .schema) G T) (size G T) (f .attribute) (objectOf x (f .origin))
+            (objectOf x (f .target))
+            (or-left (links G (f .attribute) (objectOf x (f .origin)) (objectOf x (f .target))) _ h))
+            (asked t .edges) (all-unmapped _ (renumber x) (asked t .edges) (edges-linked G));
+      }
+
+  embeds : In K (t .query) (groundOf t x .start)
+  unfolding groundOf asked
+  embeds = meets-in (t .schema .signature) (suc (conceptSteps (t .query))) K (objectOf x) assigns (t .query) (startNode t) zero
+      (formed .query) meets
+
+-- two declared constants with one representative
+clash-is : (t : Task) → So (clash t)
+    → (a b : ℕ) × (a < b) × (b < t .schema .signature .constants)
+    × (repOf (primary t) (constantNode t a) ≡ repOf (primary t) (constantNode t b))
+unfolding clash
+clash-is t c =
+    let y = any-is _ (t .schema .signature .constants) c in
+    let z = any-is _ (y .0) (y .2) in
+    (z .0, y .0, z .1, y .1, eqb-true _ _ (z .2))
+
+clash-of : (t : Task) (a b : ℕ) → a < b → b < t .schema .signature .constants
+    → repOf (primary t) (constantNode t a) ≡ repOf (primary t) (constantNode t b) → So (clash t)
+unfolding clash
+clash-of t a b h k e = any-of _ (t .schema .signature .constants) b k (any-of _ b a h (eq-eqb _ _ e))
+
+module _ (t : Task) (formed : WellFormed t) where
+  constants-apart : clash t ≡ false → (a b : ℕ) → a < t .schema .signature .constants → b < t .schema .signature .constants
+      → ground t .constants a ≡ ground t .constants b → a ≡ b
+  unfolding ground groundOf
+  constants-apart n a b h k q =
+      let e = object-rep t (primary t) (primary-ok t formed) (constantNode t a) (constantNode t b) (omega arith) (omega arith) q in
+      elim (decLt a b) [
+        | yes y ↦ absurd (false≢true (sym n ∙ clash-of t a b y k e))
+        | no y ↦
+            elim (decLt b a) [
+              | yes z ↦ absurd (false≢true (sym n ∙ clash-of t b a z h (sym e)))
+              | no z ↦ omega arith
+            ]
+      ]
+
+  pub ground-is : Grounded t (ground t) (nodeOf t (primary t))
+  unfolding ground
+  ground-is = grounded t formed (primary t) (primary-ok t formed) (primary-closed t formed)
+
+  pub forest-is : Grown (t .schema) (ground t) bare (forest t) ×
+      ((p : ℕ) → p < ground t .objects → Cov (t .schema) (ground t) (forest t) (t .view) p [])
+  unfolding forest
+  forest-is = walks-cover (t .schema) (ground t) (t .view)
+
+  query-embeds : In (candidate t) (t .query) (first t)
+  unfolding ground
+  query-embeds = embeds t formed (primary t) (primary-ok t formed) (primary-closed t formed) (forest t) (forest-is .0)
+
+  finished : clash t ≡ false
+      → Done t (chased (t .schema) (ground t) (forest t)) (lacks (t .schema) (ground t) (forest t)) (ground t .objects)
+      (size (ground t) (forest t)) (first t) (nodeOf t (primary t))
+  finished n =
+      done t formed (ground t) (nodeOf t (primary t)) (forest t) ground-is (forest-is .0) (constants-apart n) query-embeds (forest-is .1)
+
+  -- no legal state has an object in a query that makes two constants one
+  pub clash-held : So (clash t) → Held (t .schema) (t .query) (t .view)
+  clash-held c = λ I legal d h q.
+      let w = fitting t formed I legal d h q in
+      let g = w .0 in
+      let k = clash-is t c in
+      let same : (n : ℕ) → n < nodes t → g n ≡ g (repOf (primary t) n) = primary-ok t formed .same I g (w .1) in
+      let e : I .names (k .0) ≡ I .names (k .1)
+      = sym (w .1 .assigns .constants (k .0) (omega (arith, k .2, k .3))) ∙ same (constantNode t (k .0))
+      (omega (arith, k .2, k .3)) ∙ ap g (k .4)
+      ∙ sym (same (constantNode t (k .1)) (omega (arith, k .3))) ∙ w .1 .assigns .constants (k .1) (k .3) in
+      absurd (omega (arith, legal .names .apart (k .0) (k .1) (omega (arith, k .2, k .3)) (k .3) e, k .2))
+
+  pub says-held : In (candidate t) (t .view) (first t) → Held (t .schema) (t .query) (t .view)
+  says-held x = go (clash t) refl
+    where
+      go : (b : Bool) → clash t ≡ b → Held (t .schema) (t .query) (t .view)
+      go true c = clash-held c
+      go false n = held t _ _ _ _ _ _ (finished n) formed x
+
+  pub says-open : clash t ≡ false → (In (candidate t) (t .view) (first t) → ⊥)
+      → Counterexample (t .schema) (t .query) (t .view) (candidate t) (first t)
+  says-open n x = let o = opened t _ _ _ _ _ _ (finished n) in record { legal = o .0; selected = o .1; outside = x }
+
+  pub is-small : conceptSteps (t .query) ≤ 16 → conceptSteps (t .view) ≤ 6 → t .schema .signature .constants ≤ 4 → candidate t .size ≤ 463
+  unfolding ground groundOf forest objects
+  is-small q v c =
+      let G = ground t in
+      cond-elim (λ n. n ≤ 463) (lacking (t .schema) G (forest t)) (λ _. bounded) (λ _. omega (arith, bounded))
+    where
+      bounded : suc (size (ground t) (forest t)) ≤ 463
+      bounded = omega (arith, walks-size (t .schema) (ground t) (t .view) v, count-le (live (primary t)) (nodes t))

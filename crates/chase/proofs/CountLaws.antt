@@ -1,0 +1,109 @@
+-- Counting and listing the numbers below n that pass a test: they are numbered in order and without gaps.
+use Prim.Native.Nat.{ℕ, zero, suc, _≤_, _<_}
+use native.Mathlib.Omega.{arith}
+use native.Mathlib.Decide.{decLt}
+use mathlib.Core.Bool.{Bool, false, So, cond, false≢true}
+use mathlib.Core.Logic.{⊎-elim}
+use mathlib.Core.Path.{_≡_, refl, ap, _∙_}
+use mathlib.Core.List.{List, [], _∷_, _++_}
+use lib.Dec.{eqb}
+use lib.ListN.{length, getD, length-append, List·getD-append}
+use lib.Seq.{getD-at}
+use borrow.Author.Tests.{eqb-true, eqb-false}
+use Rattle.records.specs.Finite.{any, count}
+use Rattle.chase.specs.Loops.{upto}
+use Rattle.chase.specs.Ground.{listing}
+use Rattle.chase.proofs.TestLaws.{cond-elim, cond-elim₂, or-left, or-right, or-cases}
+use Rattle.chase.proofs.Numbers.{up-to}
+
+module _ (test : ℕ → Bool) where
+  count-step : (n : ℕ) → count n test ≤ count (suc n) test
+  unfolding count
+  count-step n = cond-elim (λ c. count n test ≤ c) (test n) (λ _. omega arith) (λ _. omega arith)
+
+  pub count-next : (n : ℕ) → So (test n) → count (suc n) test ≡ suc (count n test)
+  unfolding count
+  count-next n h = ap (λ (b : Bool). cond b (suc (count n test)) (count n test)) h
+
+  pub count-le : (n : ℕ) → count n test ≤ n
+  unfolding count
+  count-le zero = omega arith
+  count-le (suc n) = cond-elim (λ c. c ≤ suc n) (test n) (λ _. omega (arith, count-le n)) (λ _. omega (arith, count-le n))
+
+  -- a number that passes has fewer before it than any later number
+  pub count-lt : (n i : ℕ) → i < n → So (test i) → count i test < count n test
+  count-lt zero i h p = absurd (omega arith)
+  count-lt (suc n) i h p =
+      up-to (λ j. So (test j) → count j test < count (suc n) test) n
+      (λ j k q. omega (arith, count-lt n j k q, count-step n)) (λ q. omega (arith, count-next n q)) i h p
+
+  pub count-same : (n : ℕ) → test n ≡ false → count (suc n) test ≡ count n test
+  unfolding count
+  count-same n h = ap (λ (b : Bool). cond b (suc (count n test)) (count n test)) h
+
+  -- the number that passes with d before it
+  pub pick : ℕ → ℕ → ℕ
+  pick zero d = zero
+  pick (suc n) d = cond (test n) (cond (eqb (count n test) d) n (pick n d)) (pick n d)
+
+  pub pick-is : (n d : ℕ) → d < count n test → (pick n d < n) × So (test (pick n d)) × (count (pick n d) test ≡ d)
+  unfolding pick
+  pick-is zero d h = absurd (omega (arith, count-le zero))
+  pick-is (suc n) d h =
+      cond-elim X (test n)
+      (λ p. cond-elim X (eqb (count n test) d) (λ e. (omega arith, p, eqb-true (count n test) d e))
+      (λ e. let ne : ¬ (count n test ≡ d) = eqb-false (count n test) d e in before (pick-is n d (omega (arith, count-next n p)))))
+      (λ p. before (pick-is n d (omega (arith, count-same n p))))
+    where
+      X : ℕ → Type 0
+      X i = (i < suc n) × So (test i) × (count i test ≡ d)
+
+      before : (pick n d < n) × So (test (pick n d)) × (count (pick n d) test ≡ d) → X (pick n d)
+      before k = (omega (arith, k .0), k .1, k .2)
+
+  pub count-injective : (i j : ℕ) → So (test i) → So (test j) → count i test ≡ count j test → i ≡ j
+  count-injective i j p q e =
+      elim (decLt i j) [
+        | yes h ↦ absurd (omega (arith, count-lt j i h p))
+        | no n ↦
+            elim (decLt j i) [
+              | yes h ↦ absurd (omega (arith, count-lt i j h q))
+              | no m ↦ omega arith
+            ]
+      ]
+
+  module _ (f : ℕ → ℕ) where
+    pub listing-length : (n : ℕ) → length (listing test f n) ≡ count n test
+    unfolding listing upto count
+    listing-length zero = refl
+    listing-length (suc n) =
+        cond-elim₂ {A = List ℕ} (λ l c. length l ≡ c) (test n)
+        (λ _. omega (arith, length-append (listing test f n) (f n ∷ []), listing-length n)) (λ _. listing-length n)
+
+    pub listing-at : (n i : ℕ) → i < n → So (test i) → getD (listing test f n) (count i test) 0 ≡ f i
+    unfolding listing upto
+    listing-at zero i h p = absurd (omega arith)
+    listing-at (suc n) i h p =
+        up-to (λ j. So (test j) → getD (listing test f (suc n)) (count j test) 0 ≡ f j) n
+        (λ j k q.
+        cond-elim {A = List ℕ} (λ l. getD l (count j test) 0 ≡ f j) (test n)
+        (λ _. List·getD-append (listing test f n) (f n ∷ []) 0 (count j test)
+        (omega (arith, listing-length n, count-lt n j k q)) ∙ listing-at n j k q)
+        (λ _. listing-at n j k q))
+        (λ q.
+        ap (λ (b : Bool). getD (cond b (listing test f n ++ (f n ∷ [])) (listing test f n)) (count n test) 0) q
+        ∙ getD-at (listing test f n) (f n) [] 0 (count n test) (listing-length n))
+        i h p
+
+pub any-of : (f : ℕ → Bool) (n i : ℕ) → i < n → So (f i) → So (any n f)
+unfolding any
+any-of f zero i h p = absurd (omega arith)
+any-of f (suc n) i h p =
+    up-to (λ j. So (f j) → So (any (suc n) f)) n (λ j k q. or-left (any n f) (f n) (any-of f n j k q))
+    (λ q. or-right (any n f) (f n) q) i h p
+
+pub any-is : (f : ℕ → Bool) (n : ℕ) → So (any n f) → (i : ℕ) × (i < n) × So (f i)
+unfolding any
+any-is f zero h = absurd (false≢true h)
+any-is f (suc n) h =
+    ⊎-elim (λ k. let r = any-is f n k in (r .0, omega (arith, r .1), r .2)) (λ k. (n, omega arith, k)) (or-cases (any n f) (f n) h)

@@ -1,0 +1,43 @@
+-- Why the decision is right.
+-- Tests, numbers, lists and loops.
+pub mod TestLaws
+pub mod Numbers
+pub mod Update
+pub mod All
+pub mod LoopLaws
+pub mod ListLaws
+pub mod CountLaws
+-- The theory: what a finished chase decides.
+pub mod Reflection
+pub mod ClosingLaws
+pub mod FactsLaws
+pub mod Witness
+pub mod Consequence
+pub mod Extension
+pub mod Done
+-- The model: class sets and axioms, the primary part, the made part, the candidate and the answers.
+pub mod ClassSetLaws
+pub mod AxiomLaws
+pub mod ClosureLaws
+pub mod PrimeLaws
+pub mod PrimaryLaws
+pub mod GroundLaws
+pub mod ForestLaws
+pub mod WalkLaws
+pub mod SizeLaws
+pub mod CandidateLaws
+pub mod Coverage
+pub mod Answers
+-- For the code: tokens and records, arrays, the written state.
+pub mod PileLaws
+pub mod SpellingLaws
+pub mod TokenLaws
+pub mod ReadingLaws
+pub mod AcceptanceLaws
+pub mod ArrayLaws
+pub mod TargetLaws
+pub mod PairLaws
+pub mod Alike
+pub mod Judged
+-- Worked examples.
+pub mod Examples

@@ -1,0 +1,15 @@
+-- The decision procedure as plain functions on numbers, tests and lists, in the order in which it runs.
+pub mod Loops
+pub mod ClassSet
+pub mod Axioms
+pub mod Steps
+pub mod Facts
+pub mod Declared
+pub mod Task
+pub mod Primary
+pub mod Ground
+pub mod Forest
+pub mod Closing
+pub mod Candidate
+pub mod Targets
+pub mod Tokens
