@@ -106,7 +106,6 @@ module _ (w : List ℕ) where
 
   -- the steps of what is spelt stand between its start and its end
   mutual
-
     pub concept-number : (C : Concept) (b e : ℕ) → Spells C b e → stepNumber w e ≡ stepNumber w b + conceptSteps C
     concept-number (class A) b e s = omega (arith, ap (stepNumber w) (s .0), step-same b (Class A) (s .1) refl)
     concept-number everything b e s = omega (arith, ap (stepNumber w) (s .0), step-same b Everything (s .1) refl)
@@ -154,7 +153,6 @@ module _ (w : List ℕ) where
     suits-step backward P p C i h q = ltb-true P (g .attributes) (suits-as i (Backward P) h q)
 
     mutual
-
       pub concept-declared : (C : Concept) (b e : ℕ) → e ≤ n → Spells C b e → Declared g C
       concept-declared (class A) b e h s = ltb-true A (g .classes) (suits-as b (Class A) (omega (arith, s .0)) (s .1))
       concept-declared everything b e h s = tt
