@@ -1,0 +1,93 @@
+-- The facts of an accepted state: members and pairs are facts, their objects are inside, and facts of one left word stand
+-- next to each other, since the facts ascend.
+use Prim.Native.Nat.{ℕ, zero, suc, _+_, _-_, _≤_, _<_}
+use mathlib.Core.Bool.{So, false, not, _||_, false≢true}
+use mathlib.Core.List.{List}
+use mathlib.Core.Logic.{_⊎_, inl, inr, ⊎-elim, _↔_}
+use mathlib.Core.Path.{_≡_, refl, ap}
+use native.Mathlib.Nat.{eq-or-lt-of-le, le-of-suc-le-suc, le-of-eq, le-trans}
+use native.Mathlib.Omega.{arith}
+use borrow.Author.Tests.{eq-eqb, eqb-true, ltb-true, lt-ltb, le-leb, not-false}
+use lib.Dec.{ltb, leb}
+use Rattle.records.specs.declared.schema.Signature.{Signature}
+use Rattle.records.specs.Layout.{stateLayout, entries, leftAt, rightAt, attributeKinds, constantKinds, maxAttributes, maxObjects}
+use Rattle.records.specs.StateRecord.{objects, kindAt, objectAt, says, saysPair}
+use Rattle.records.specs.Refusal.{AcceptedState, declaresKind, faultyFact, suitsKind, ascends}
+use Rattle.records.proofs.BoolLaws.{or-false-right, or-true-cases, and-right, and-both, and-map, and-iff, and-three-iff}
+use Rattle.records.proofs.FiniteLaws.{any-iff}
+use Rattle.records.proofs.ExecutableLaws.{eqb-iff}
+use Rattle.records.proofs.AcceptedLaws.{passes-7, passes-8, passes-9, objects-few, fact-faultless, fact-ascends}
+use Rattle.records.proofs.StateScanLaws.{fact-object}
+use Rattle.legality.specs.Breaks.{repeatsLeft}
+
+pub says-iff : (w : List ℕ) (k d : ℕ) → So (says w k d) ↔ ((f : ℕ) × (f < entries stateLayout w) × ((kindAt w f ≡ k) × (objectAt w f ≡ d)))
+unfolding says
+says-iff w k d = any-iff λ f. and-iff (eqb-iff (kindAt w f) k) (eqb-iff (objectAt w f) d)
+
+-- some fact is the pair (d, e) of kind k
+abbrev pub PairFact : List ℕ → ℕ → ℕ → ℕ → Type 0
+PairFact w k d e = (f : ℕ) × (f < entries stateLayout w) × ((kindAt w f ≡ k) × (objectAt w f ≡ d) × (rightAt stateLayout w f ≡ e))
+
+pub pair-iff : (w : List ℕ) (k d e : ℕ) → So (saysPair w k d e) ↔ PairFact w k d e
+unfolding saysPair
+pair-iff w k d e = any-iff λ f. and-three-iff (eqb-iff (kindAt w f) k) (eqb-iff (objectAt w f) d) (eqb-iff (rightAt stateLayout w f) e)
+
+pub pair-of : (w : List ℕ) (k f : ℕ) → f < entries stateLayout w → kindAt w f ≡ k → So (saysPair w k (objectAt w f) (rightAt stateLayout w f))
+pair-of w k f l e = pair-iff w k (objectAt w f) (rightAt stateLayout w f) .1 (f, l, (e, refl, refl))
+
+module _ (s : Signature) (w : List ℕ) (ok : AcceptedState s w) where
+  pub few-objects : objects w ≤ maxObjects
+  few-objects = objects-few w (passes-7 s w ok)
+
+  faultless : (f : ℕ) → f < entries stateLayout w → faultyFact s w f ≡ false
+  faultless = fact-faultless s w (passes-8 s w ok)
+
+  pub object-inside : (f : ℕ) → f < entries stateLayout w → objectAt w f < objects w
+  object-inside f l = fact-object s w f (faultless f l)
+
+  -- the second object of a pair
+  pub value-inside : (P f : ℕ) → P < maxAttributes → f < entries stateLayout w → kindAt w f ≡ attributeKinds + P → rightAt stateLayout w f < objects w
+  unfolding faultyFact
+  value-inside P f h l e =
+      let t : So (suitsKind (objects w) (kindAt w f) (rightAt stateLayout w f)) =
+      not-false _ (or-false-right (not (declaresKind s (kindAt w f)) || leb (objects w) (objectAt w f)) _ (faultless f l))
+      in
+      ltb-true (rightAt stateLayout w f) (objects w)
+      (rw (e, le-leb attributeKinds (attributeKinds + P) (omega arith), lt-ltb (attributeKinds + P) constantKinds (omega arith)) at t)
+
+  -- Order.
+
+  ascends-cases : (f : ℕ) → suc f < entries stateLayout w
+      → (leftAt stateLayout w f < leftAt stateLayout w (suc f)) ⊎ ((leftAt stateLayout w f ≡ leftAt stateLayout w (suc f)) × (rightAt stateLayout w f < rightAt stateLayout w (suc f)))
+  unfolding ascends
+  ascends-cases f l =
+      ⊎-elim (λ t. inl (ltb-true _ _ t)) (λ t. inr (and-map (eqb-true _ _) (ltb-true _ _) t))
+      (or-true-cases (ltb (leftAt stateLayout w f) (leftAt stateLayout w (suc f))) _ (fact-ascends w (passes-9 s w ok) f (omega arith)))
+
+  left-rises : (f : ℕ) → suc f < entries stateLayout w → leftAt stateLayout w f ≤ leftAt stateLayout w (suc f)
+  left-rises f l = ⊎-elim (λ t. omega arith) (λ t. le-of-eq (t .0)) (ascends-cases f l)
+
+  left-grows : (f g : ℕ) → f ≤ g → g < entries stateLayout w → leftAt stateLayout w f ≤ leftAt stateLayout w g
+  left-grows f zero h l = le-of-eq (ap (leftAt stateLayout w) (omega arith))
+  left-grows f (suc g) h l =
+      ⊎-elim (λ e. le-of-eq (ap (leftAt stateLayout w) e)) (λ m. le-trans (left-grows f g (le-of-suc-le-suc m) (omega arith)) (left-rises g l))
+      (eq-or-lt-of-le h)
+
+  -- the later of two facts of one left word has that word right before it
+  pub repeats-of : (f g : ℕ) → f < g → g < entries stateLayout w → kindAt w f ≡ kindAt w g → objectAt w f ≡ objectAt w g → So (repeatsLeft w g)
+  unfolding kindAt objectAt
+  repeats-of f zero m l p q = absurd (omega arith)
+  repeats-of f (suc g) m l p q =
+      let e : suc g - 1 ≡ g = omega arith in
+      and-both (ltb 0 (suc g)) _ (lt-ltb 0 (suc g) (omega arith))
+      (rw e (eq-eqb (leftAt stateLayout w g) (leftAt stateLayout w (suc g)) (omega (arith, left-grows f g (omega arith) (omega arith), left-rises g l))))
+
+  -- and there stands another value
+  pub repeats-other : (f : ℕ) → f < entries stateLayout w → So (repeatsLeft w f)
+      → (g : ℕ) × (g < entries stateLayout w) × ((kindAt w g ≡ kindAt w f) × (objectAt w g ≡ objectAt w f) × (rightAt stateLayout w g < rightAt stateLayout w f))
+  unfolding kindAt objectAt
+  repeats-other zero l t = absurd (false≢true t)
+  repeats-other (suc g) l t =
+      let b : suc g - 1 ≡ g = omega arith in
+      let e : leftAt stateLayout w g ≡ leftAt stateLayout w (suc g) = eqb-true _ _ (rw b at (and-right (ltb 0 (suc g)) _ t)) in
+      (g, omega arith, (omega arith, omega arith, ⊎-elim (λ p. absurd (omega arith)) (λ p. p .1) (ascends-cases g l)))

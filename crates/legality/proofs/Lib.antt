@@ -1,0 +1,4 @@
+-- Laws that several proofs here share.
+mod FactLaws
+mod BreakLaws
+mod SearchLaws

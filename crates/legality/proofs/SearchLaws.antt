@@ -1,0 +1,114 @@
+-- What the search for the first broken axiom knows while it goes on, and at each of its ends.
+-- An axiom of an accepted schema names only what the index has bits for, so BreakLaws applies to it.
+use Prim.Native.Nat.{ℕ, _+_, _≤_, _<_}
+use mathlib.Core.Bool.{Bool, false, So, not, _||_}
+use mathlib.Core.List.{List}
+use mathlib.Core.Path.{_≡_, sym, ap, subst}
+use native.Mathlib.Nat.{le-antisymm, le-of-lt}
+use native.Mathlib.Omega.{arith}
+use borrow.Author.Tests.{ltb-true, ltb-false}
+use lib.Dec.{ltb}
+use Rattle.records.specs.declared.schema.Axiom.{Axiom}
+use Rattle.records.specs.declared.schema.Axiom.the-variants.{Subclass, Typing, Necessary, Single, Relates}
+use Rattle.records.specs.declared.schema.Signature.{Signature}
+use Rattle.records.specs.Finite.{any}
+use Rattle.records.specs.Schema.{Schema, Holds}
+use Rattle.records.specs.State.{State}
+use Rattle.records.specs.Executable.{holds, firstBroken}
+use Rattle.records.specs.Layout.{schemaLayout, stateLayout, entries, maxClasses, maxAttributes, maxConstants, maxAxioms}
+use Rattle.records.specs.SchemaRecord.{signatureOf, schemaOf}
+use Rattle.records.specs.StateRecord.{objects as objectsOf, stateOf}
+use Rattle.records.specs.Refusal.{declares, oversized, refusal-1}
+use Rattle.records.proofs.BoolLaws.{or-false-left, or-false-right, and-map, and-three-map, false-of, not-of-false}
+use Rattle.records.proofs.FiniteLaws.{any-zero, any-still, any-none, least-is}
+use Rattle.records.proofs.ExecutableLaws.{holds-iff}
+use Rattle.records.proofs.AcceptedLaws.{passes-1, passes-2, axiom-declared}
+use Rattle.legality.specs.Legality.{Judged}
+use Rattle.legality.specs.Breaks.{Named, objectBreaks, pairBreaks}
+use Rattle.legality.proofs.BreakLaws.{object-broken, pair-broken, unbroken}
+
+-- axiom i is broken
+abbrev pub brokenAt : Schema → State → ℕ → Bool
+brokenAt S I i = not (holds I (S .axiomAt i))
+
+declared-named : (s : Signature) (x : Axiom) → s .classes ≤ maxClasses → s .attributes ≤ maxAttributes → So (declares s x) → Named x
+declared-named s x c a = pick x
+  where
+    class : {A : ℕ} → So (ltb A (s .classes)) → A < maxClasses
+    class {A} t = let h = ltb-true A (s .classes) t in omega arith
+
+    attribute : {P : ℕ} → So (ltb P (s .attributes)) → P < maxAttributes
+    attribute {P} t = let h = ltb-true P (s .attributes) t in omega arith
+
+    pick : (x : Axiom) → So (declares s x) → Named x
+    pick (Subclass A B) = and-map class class
+    pick (Typing A P B) = and-three-map class attribute class
+    pick (Necessary A P) = and-map class attribute
+    pick (Single A P) = and-map class attribute
+    pick (Relates P A B) = and-three-map attribute class class
+
+signature-few : (w : List ℕ) → refusal-1 w ≡ false → (signatureOf w .classes ≤ maxClasses) × (signatureOf w .attributes ≤ maxAttributes)
+unfolding refusal-1
+signature-few w e =
+    let h = or-false-left (oversized (signatureOf w) (entries schemaLayout w)) _ e in
+    let t = or-false-left (ltb maxClasses (signatureOf w .classes) || ltb maxAttributes (signatureOf w .attributes)) (ltb maxConstants (signatureOf w .constants)) (or-false-left _ (ltb maxAxioms (entries schemaLayout w)) h) in
+    (ltb-false maxClasses (signatureOf w .classes) (or-false-left _ (ltb maxAttributes (signatureOf w .attributes)) t), ltb-false maxAttributes (signatureOf w .attributes) (or-false-right (ltb maxClasses (signatureOf w .classes)) _ t))
+
+-- A loop of the search that has passed the first i of m tests: none applied, and nothing is found, which n says.
+pub record Passed (test : ℕ → Bool) (m i n found : ℕ) : Type 0 where
+  pub within : i ≤ m
+  pub none : any i test ≡ false
+  pub kept : found ≡ n
+
+module _ (test : ℕ → Bool) (m : ℕ) where
+  pub passed-none : {n found : ℕ} → found ≡ n → Passed test m 0 n found
+  passed-none e = record { within = omega arith; none = any-zero test; kept = e }
+
+  pub passed-more : {i n found next : ℕ} → Passed test m i n found → i < m → test i ≡ false → next ≡ n → Passed test m (i + 1) n next
+  passed-more {i} z l e k = record { within = omega arith; none = any-still test i (z .none) e; kept = k }
+
+  pub passed-all : {i n found : ℕ} → Passed test m i n found → m ≤ i → any m test ≡ false
+  passed-all {i} z l = subst (λ (k : ℕ). any k test ≡ false) (le-antisymm (z .within) l) (z .none)
+
+-- What the code has read when axiom i is at hand: n axioms, m objects, k facts, and the axiom x; none before it is broken.
+pub record AtHand (s : Signature) (schema state seen : List ℕ) (n m k i : ℕ) (x : Axiom) : Type 0 where
+  pub judged : Judged s schema state seen
+  pub axioms : n ≡ entries schemaLayout schema
+  pub objects : m ≡ objectsOf state
+  pub facts : k ≡ entries stateLayout state
+  pub is : x ≡ schemaOf schema .axiomAt i
+  pub here : i < n
+  pub earlier : any i (brokenAt (schemaOf schema) (stateOf state)) ≡ false
+
+module _ (schema state : List ℕ) (n : ℕ) (axioms : n ≡ entries schemaLayout schema) where
+  first-is : (i : ℕ) → i ≤ n → any i (brokenAt (schemaOf schema) (stateOf state)) ≡ false → (i < n → So (brokenAt (schemaOf schema) (stateOf state) i)) → i ≡ firstBroken (schemaOf schema) (stateOf state)
+  unfolding schemaOf
+  first-is i l e b =
+      sym (least-is (brokenAt (schemaOf schema) (stateOf state)) (entries schemaLayout schema) i (rw (← axioms) l) (λ h. b (rw axioms h)) (any-none (brokenAt (schemaOf schema) (stateOf state)) i e))
+
+  pub none-first : any n (brokenAt (schemaOf schema) (stateOf state)) ≡ false → n ≡ firstBroken (schemaOf schema) (stateOf state)
+  none-first e = first-is n (omega arith) e (λ h. absurd (omega arith))
+
+module _ {s : Signature} {schema state seen : List ℕ} {n m k i : ℕ} {x : Axiom} (z : AtHand s schema state seen n m k i x) where
+  pub axiom-named : Named x
+  axiom-named =
+      let ok = z .judged .schema-accepted in
+      let few = signature-few schema (passes-1 schema ok) in
+      declared-named (signatureOf schema) x (few .0) (few .1) (rw (z .is) (axiom-declared schema (passes-2 schema ok) i (rw (← (z .axioms)) (z .here))))
+
+  broken-first : (Holds (stateOf state) x → ⊥) → i ≡ firstBroken (schemaOf schema) (stateOf state)
+  broken-first h =
+      first-is schema state n (z .axioms) i (le-of-lt (z .here)) (z .earlier)
+      (λ _. not-of-false _ (false-of _ (λ t. h (rw (z .is) (holds-iff (stateOf state) (schemaOf schema .axiomAt i) .0 t)))))
+
+  pub object-first : (d : ℕ) → d < m → So (objectBreaks seen x d) → i ≡ firstBroken (schemaOf schema) (stateOf state)
+  object-first d l b = broken-first (object-broken s state seen (z .judged .state-accepted) (z .judged .index) x axiom-named d (rw (← (z .objects)) l) b)
+
+  pub pair-first : (f : ℕ) → f < k → So (pairBreaks state seen x f) → i ≡ firstBroken (schemaOf schema) (stateOf state)
+  pair-first f l b = broken-first (pair-broken s state seen (z .judged .state-accepted) (z .judged .index) x axiom-named f (rw (← (z .facts)) l) b)
+
+  -- neither an object nor a fact breaks it
+  pub axiom-kept : any m (objectBreaks seen x) ≡ false → any k (pairBreaks state seen x) ≡ false → brokenAt (schemaOf schema) (stateOf state) i ≡ false
+  axiom-kept o p =
+      ap not (holds-iff (stateOf state) (schemaOf schema .axiomAt i) .1
+      (subst (Holds (stateOf state)) (z .is) (unbroken s state seen (z .judged .state-accepted) (z .judged .index) x axiom-named (rw (← (z .objects)) o) (rw (← (z .facts)) p))))
