@@ -1,0 +1,4 @@
+-- Laws that the entries' proofs share.
+mod RefusalLaws
+mod LegalLaws
+mod MarkLaws
