@@ -1,4 +1,5 @@
 -- Laws that the entries' proofs share.
 mod RefusalLaws
 mod LegalLaws
+mod SelectLaws
 mod MarkLaws

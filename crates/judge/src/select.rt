@@ -1,11 +1,18 @@
 // Select: which objects of a state are in a concept, as words that the caller lends.
+use records::concept::ConceptAnswer;
+use records::concept::check_query;
+use records::schema::SchemaAnswer;
+use records::schema::check_schema;
+use records::state::StateAnswer;
+use records::state::check_state;
+use records::state::objects;
 ghost use mathlib.Core.Path.{_≡_};
 ghost use mathlib.Core.List.{_++_};
 ghost use Prim.Native.Nat.{_≤_};
 ghost use lib.ListN.{length, drop};
 ghost use Rattle.records.specs.Finite.{count};
 ghost use Rattle.index.specs.BitSet.{bitAt};
-ghost use Rattle.judge.specs.Select.{marks};
+ghost use Rattle.judge.specs.Select.{Outcome, marks, selectOutcome};
 
 pub enum SelectAnswer {
     // How many objects are selected.
@@ -27,4 +34,28 @@ fn mark(set: &[u64; 8], n: usize, lent: &mut [u16]) -> usize
         found += here as usize;
     }
     found
+}
+
+pub fn select(schema: &[u16], concept: &[u16], state: &[u16], lent: &mut [u16]) -> SelectAnswer
+    ensures { λ r. ⌜ record { answer = r; words = now (lent .exit) } ≡ selectOutcome (now (schema .entry)) (now (concept .entry)) (now (state .entry)) (now (lent .entry)) ⌝ }
+{
+    let checked = check_schema(schema);
+    let SchemaAnswer::Accepted(s) = checked else {
+        return SelectAnswer::Refused(checked.number());
+    };
+    let read = check_query(s, concept);
+    let ConceptAnswer::Accepted = read else {
+        return SelectAnswer::Refused(read.number());
+    };
+    let judged = check_state(s, state);
+    let StateAnswer::Accepted = judged else {
+        return SelectAnswer::Refused(judged.number());
+    };
+    let n = objects(state);
+    if lent.len() < n {
+        return SelectAnswer::Refused(11);
+    }
+    let seen = index::left::index(state);
+    let set = evaluate::evaluate(s, concept, state, &seen);
+    SelectAnswer::Selected(mark(&set, n, lent))
 }

@@ -6,5 +6,6 @@ pub mod RefusalLaws
 pub mod AcceptedLaws
 pub mod ConceptScanLaws
 pub mod StateScanLaws
+pub mod PileLaws
 -- The twelve small states of document 01.
 pub mod Examples

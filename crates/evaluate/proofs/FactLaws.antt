@@ -1,0 +1,96 @@
+-- What the facts of an accepted state tell: they name objects of the state, and the index says which.
+use Prim.Native.Nat.{ℕ, _+_, _*_, _≤_, _<_}
+use mathlib.Core.Bool.{Bool, true, false, So, cond, not, _&&_, _||_, false≢true}
+use mathlib.Core.List.{List}
+use mathlib.Core.Path.{_≡_, refl, sym, _∙_}
+use native.Mathlib.Decide.{decLt}
+use native.Mathlib.Omega.{arith}
+use borrow.Author.Tests.{lt-ltb, le-ltb, ltb-true, eq-eqb, eqb-true, not-false}
+use lib.Dec.{eqb, ltb, leb}
+use Rattle.records.specs.declared.schema.Signature.{Signature}
+use Rattle.records.specs.Finite.{count}
+use Rattle.records.specs.Layout.{stateLayout, entries, rightAt, objectPart, attributeKinds, constantKinds, factKinds, maxObjects}
+use Rattle.records.specs.StateRecord.{objects, kindAt, objectAt, says, stateOf}
+use Rattle.records.specs.Refusal.{faultyFact, declaresKind, namesAt}
+use Rattle.records.proofs.BoolLaws.{or-false-left, or-false-right, and-right, and-both, and-map, false-of}
+use Rattle.records.proofs.FiniteLaws.{any-of, any-found, count-found}
+use Rattle.records.proofs.AcceptedLaws.{passes-7, passes-8, passes-10, objects-few, fact-faultless, constant-once}
+use Rattle.records.proofs.StateScanLaws.{fact-object, name-is}
+use Rattle.index.proofs.TestLaws.{test-same}
+use Rattle.index.proofs.BitSetLaws.{past-bits}
+use Rattle.index.proofs.IndexLaws.{index-says}
+use Rattle.evaluate.specs.Evaluable.{Evaluable}
+use Rattle.evaluate.specs.Rows.{rowBit}
+use Rattle.evaluate.specs.Steps.{endAt}
+
+-- a pair's second object, and 0 in any other fact, is below the number of objects
+second-object : (s : Signature) (v : List ℕ) (i : ℕ) → faultyFact s v i ≡ false → rightAt stateLayout v i < objects v
+unfolding faultyFact
+second-object s v i e = pick (leb attributeKinds (kindAt v i) && ltb (kindAt v i) constantKinds) (not-false _ (or-false-right (not (declaresKind s (kindAt v i)) || leb (objects v) (objectAt v i)) _ e))
+  where
+    pick : (t : Bool) → So (cond t (ltb (rightAt stateLayout v i) (objects v)) (eqb (rightAt stateLayout v i) 0)) → rightAt stateLayout v i < objects v
+    pick true h = ltb-true (rightAt stateLayout v i) (objects v) h
+    pick false h = omega (arith, eqb-true (rightAt stateLayout v i) 0 h, fact-object s v i e)
+
+kind-past : (s : Signature) (v : List ℕ) (i : ℕ) → faultyFact s v i ≡ false → factKinds ≤ kindAt v i → ⊥
+unfolding faultyFact
+kind-past s v i e h =
+    false≢true
+    (rw (le-ltb (kindAt v i) attributeKinds (omega arith), le-ltb (kindAt v i) constantKinds (omega arith), le-ltb (kindAt v i) factKinds h) at
+    (not-false (declaresKind s (kindAt v i)) (or-false-left _ _ (or-false-left _ _ e))))
+
+module _ {s : Signature} {w v seen : List ℕ} (ok : Evaluable s w v seen) where
+  faultless : (i : ℕ) → i < entries stateLayout v → faultyFact s v i ≡ false
+  faultless = fact-faultless s v (passes-8 s v (ok .accepted))
+
+  pub objects-room : objects v ≤ maxObjects
+  objects-room = objects-few v (passes-7 s v (ok .accepted))
+
+  pub end-inside : (second : Bool) (i : ℕ) → i < entries stateLayout v → endAt v second i < objects v
+  end-inside true i l = second-object s v i (faultless i l)
+  end-inside false i l = fact-object s v i (faultless i l)
+
+  -- A kind's objects.
+
+  says-at : (k d : ℕ) → So (says v k d) → (i : ℕ) × (i < entries stateLayout v) × (kindAt v i ≡ k) × (objectAt v i ≡ d)
+  unfolding says
+  says-at k d t =
+      let (i, l, q) = any-found (λ i. eqb (kindAt v i) k && eqb (objectAt v i) d) (entries stateLayout v) t in
+      let e = and-map (eqb-true (kindAt v i) k) (eqb-true (objectAt v i) d) q in
+      (i, l, e .0, e .1)
+
+  says-of : (i : ℕ) → i < entries stateLayout v → So (says v (kindAt v i) (objectAt v i))
+  unfolding says
+  says-of i l =
+      any-of (λ j. eqb (kindAt v j) (kindAt v i) && eqb (objectAt v j) (objectAt v i)) (entries stateLayout v) i l
+      (and-both _ _ (eq-eqb (kindAt v i) (kindAt v i) refl) (eq-eqb (objectAt v i) (objectAt v i) refl))
+
+  pub says-inside : (k d : ℕ) → (ltb d (objects v) && says v k d) ≡ says v k d
+  says-inside k d =
+      test-same _ _ (λ t. and-right (ltb d (objects v)) _ t)
+      (λ t. let (i, l, p, q) = says-at k d t in and-both _ _ (lt-ltb d (objects v) (rw q at (end-inside false i l))) t)
+
+  pub says-row : (k d : ℕ) → d < objectPart → rowBit seen k d ≡ says v k d
+  says-row k d m = pick (decLt k factKinds)
+    where
+      pick : Dec (k < factKinds) → rowBit seen k d ≡ says v k d
+      pick (yes l) = sym (index-says (ok .index) k d l m)
+      pick (no n) =
+          past-bits seen (k * objectPart + d) (omega (arith, ok .index .size))
+          ∙ sym (false-of _ (λ t. let (i, l, p, q) = says-at k d t in kind-past s v i (faultless i l) (omega arith)))
+
+  -- A declared constant has one object.
+  pub says-constant : (a d : ℕ) → a < s .constants → says v (constantKinds + a) d ≡ (ltb d (objects v) && eqb d (stateOf v .names a))
+  says-constant a d l =
+      test-same _ _ (λ t. let (i, m, p, q) = says-at (constantKinds + a) d t in
+      and-both _ _ (lt-ltb d (objects v) (rw q at (end-inside false i m))) (eq-eqb d (stateOf v .names a) (sym q ∙ sym (named i m (eq-eqb (kindAt v i) _ p)))))
+      (λ t. let (i, m, p) = any-found (namesAt v a) (entries stateLayout v) (count-found (namesAt v a) (entries stateLayout v) (omega (arith, once))) in
+      let k : kindAt v i ≡ constantKinds + a = eqb-true (kindAt v i) (constantKinds + a) p in
+      let q : objectAt v i ≡ d = sym (named i m p) ∙ sym (eqb-true d (stateOf v .names a) (and-right (ltb d (objects v)) _ t)) in
+      rw (k, q) at (says-of i m))
+    where
+      once : count (entries stateLayout v) (namesAt v a) ≡ 1
+      once = constant-once s v (passes-10 s v (ok .accepted)) a l
+
+      named : (i : ℕ) → i < entries stateLayout v → So (namesAt v a i) → stateOf v .names a ≡ objectAt v i
+      named i m p = name-is v a once i m p (end-inside false i m)

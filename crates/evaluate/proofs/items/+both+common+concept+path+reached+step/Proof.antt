@@ -1,0 +1,357 @@
+-- The span of tokens falls: an operand ends before its item does, and the measure is twice the place where the item ends.
+-- A token's own function stands between: it takes the place before the token, and its measure is one more than that of
+-- the operands that end there. Each answer cites the span that the operands' spans make (PlaceLaws).
+use mathlib.Core.Bool.{true, false}
+use mathlib.Core.Path.{sym, _∙_}
+use Rattle.evaluate.proofs.TokenLaws.{named-small}
+use Rattle.evaluate.proofs.PlaceLaws.{place-earlier, place-end, place-few, place-room, both-span, reached-span, common-span, step-span, concept-next, class-put, constant-put, everything-put, both-token, both-put, reached-token, reached-put, common-token, common-put, path-next, empty-put, step-token, step-put}
+use native.Mathlib.Omega.{arith}
+use borrow.Author.Needs.{needs}
+use Prim.Native.Nat.{ℕ, suc, _*_, _<_}
+use borrow.Fn.Kinds.{In}
+use borrow.Fn.PlainCycle.{Measures, is, falls, and}
+use Rattle.evaluate.proofs.items.both.Reads as both
+use Rattle.evaluate.proofs.items.both.Kinds as both-kinds
+use Rattle.evaluate.proofs.items.+both+common+concept+path+reached+step.Lts-both as both-lts
+use Rattle.evaluate.proofs.items.common.Reads as common
+use Rattle.evaluate.proofs.items.common.Kinds as common-kinds
+use Rattle.evaluate.proofs.items.+both+common+concept+path+reached+step.Lts-common as common-lts
+use Rattle.evaluate.proofs.items.concept.Reads as concept
+use Rattle.evaluate.proofs.items.concept.Kinds as concept-kinds
+use Rattle.evaluate.proofs.items.+both+common+concept+path+reached+step.Lts-concept as concept-lts
+use Rattle.evaluate.proofs.items.path.Reads as path
+use Rattle.evaluate.proofs.items.path.Kinds as path-kinds
+use Rattle.evaluate.proofs.items.+both+common+concept+path+reached+step.Lts-path as path-lts
+use Rattle.evaluate.proofs.items.reached.Reads as reached
+use Rattle.evaluate.proofs.items.reached.Kinds as reached-kinds
+use Rattle.evaluate.proofs.items.+both+common+concept+path+reached+step.Lts-reached as reached-lts
+use Rattle.evaluate.proofs.items.step.Reads as step
+use Rattle.evaluate.proofs.items.step.Kinds as step-kinds
+use Rattle.evaluate.proofs.items.+both+common+concept+path+reached+step.Lts-step as step-lts
+use Rattle.evaluate.proofs.relation.advance.Reads as advance-reads
+use Rattle.evaluate.proofs.relation.identity.Reads as identity-reads
+use Rattle.evaluate.proofs.sets.everything.Reads as everything-reads
+use Rattle.evaluate.proofs.sets.kind_set.Reads as kind-set-reads
+use Rattle.evaluate.proofs.sets.shared.Reads as shared-reads
+use Rattle.evaluate.proofs.sets.shared_row.Reads as shared-row-reads
+use Rattle.records.proofs.concept.token_at.Reads as token-at-reads
+use Rattle.records.proofs.state.objects.Reads as objects-reads
+use Rattle.evaluate.proofs.items.+both+common+concept+path+reached+step.{statement}
+use Rattle.evaluate.proofs.items.+both+common+concept+path+reached+step.Tie.{close}
+
+abbrev μ-both : Measures 3 both-kinds.ps ℕ
+μ-both κs a = suc (2 * a .1 .1 .1 .0)
+
+abbrev μ-common : Measures 3 common-kinds.ps ℕ
+μ-common κs a = suc (2 * a .1 .1 .1 .0)
+
+abbrev μ-concept : Measures 3 concept-kinds.ps ℕ
+μ-concept κs a = 2 * a .1 .1 .1 .0
+
+abbrev μ-path : Measures 4 path-kinds.ps ℕ
+μ-path κs a = 2 * a .1 .1 .1 .0
+
+abbrev μ-reached : Measures 3 reached-kinds.ps ℕ
+μ-reached κs a = suc (2 * a .1 .1 .1 .0)
+
+abbrev μ-step : Measures 4 step-kinds.ps ℕ
+μ-step κs a = suc (2 * a .1 .1 .1 .0)
+
+abbrev both-at : ℕ → In 3 both-kinds.ps
+both-at t = and 3 both-kinds.ps (is 3 both-kinds.ps μ-both t) both.Pre
+
+abbrev both-below : ℕ → In 3 both-kinds.ps
+both-below t = and 3 both-kinds.ps (falls 3 both-kinds.ps _<_ μ-both t) both.Pre
+
+abbrev common-at : ℕ → In 3 common-kinds.ps
+common-at t = and 3 common-kinds.ps (is 3 common-kinds.ps μ-common t) common.Pre
+
+abbrev common-below : ℕ → In 3 common-kinds.ps
+common-below t = and 3 common-kinds.ps (falls 3 common-kinds.ps _<_ μ-common t) common.Pre
+
+abbrev concept-at : ℕ → In 3 concept-kinds.ps
+concept-at t = and 3 concept-kinds.ps (is 3 concept-kinds.ps μ-concept t) concept.Pre
+
+abbrev concept-below : ℕ → In 3 concept-kinds.ps
+concept-below t = and 3 concept-kinds.ps (falls 3 concept-kinds.ps _<_ μ-concept t) concept.Pre
+
+abbrev path-at : ℕ → In 4 path-kinds.ps
+path-at t = and 4 path-kinds.ps (is 4 path-kinds.ps μ-path t) path.Pre
+
+abbrev path-below : ℕ → In 4 path-kinds.ps
+path-below t = and 4 path-kinds.ps (falls 4 path-kinds.ps _<_ μ-path t) path.Pre
+
+abbrev reached-at : ℕ → In 3 reached-kinds.ps
+reached-at t = and 3 reached-kinds.ps (is 3 reached-kinds.ps μ-reached t) reached.Pre
+
+abbrev reached-below : ℕ → In 3 reached-kinds.ps
+reached-below t = and 3 reached-kinds.ps (falls 3 reached-kinds.ps _<_ μ-reached t) reached.Pre
+
+abbrev step-at : ℕ → In 4 step-kinds.ps
+step-at t = and 4 step-kinds.ps (is 4 step-kinds.ps μ-step t) step.Pre
+
+abbrev step-below : ℕ → In 4 step-kinds.ps
+step-below t = and 4 step-kinds.ps (falls 4 step-kinds.ps _<_ μ-step t) step.Pre
+
+abbrev step-calls : ℕ → step-lts.Claims
+step-calls t = (concept-below t, concept.Post, path-below t, path.Post, advance-reads.Asked, advance-reads.Learnt)
+
+abbrev reached-calls : ℕ → reached-lts.Claims
+reached-calls t = (path-below t, path.Post, objects-reads.Asked, objects-reads.Learnt, shared-reads.Asked, shared-reads.Learnt)
+
+abbrev path-calls : ℕ → path-lts.Claims
+path-calls t = (token-at-reads.Asked, token-at-reads.Learnt, step-below t, step.Post, objects-reads.Asked, objects-reads.Learnt, identity-reads.Asked, identity-reads.Learnt)
+
+abbrev concept-calls : ℕ → concept-lts.Claims
+concept-calls t = (token-at-reads.Asked, token-at-reads.Learnt, kind-set-reads.Asked, kind-set-reads.Learnt, both-below t, both.Post, reached-below t, reached.Post, common-below t, common.Post, objects-reads.Asked, objects-reads.Learnt, everything-reads.Asked, everything-reads.Learnt)
+
+abbrev common-calls : ℕ → common-lts.Claims
+common-calls t = (path-below t, path.Post, objects-reads.Asked, objects-reads.Learnt, shared-reads.Asked, shared-reads.Learnt)
+
+abbrev both-calls : ℕ → both-lts.Claims
+both-calls t = (concept-below t, concept.Post, shared-row-reads.Asked, shared-row-reads.Learnt)
+
+both-concept-requires : (t : ℕ) → both-lts.Need-concept-requires (both-calls t) (both-at t) both.Post
+both-concept-requires t c κs = (omega (arith, c .before .before .pre .0), (c .before .before .pre .1 .0, c .before .before .pre .1 .1 .0))
+
+both-concept-requires-2 : (t : ℕ) → both-lts.Need-concept-requires-2 (both-calls t) (both-at t) both.Post
+both-concept-requires-2 t c κs = (omega (arith, c .before .before .before .pre .0, c .concept .ensures .span .earlier), (place-earlier (c .before .before .before .pre .1 .0) (omega (arith, c .concept .ensures .span .earlier)), rw (c .concept .ensures .span .rest) (c .before .before .before .pre .1 .1 .1)))
+
+both-slice-aggregate-shared-row : (t : ℕ) → both-lts.Need-slice-aggregate-shared-row (both-calls t) (both-at t) both.Post
+both-slice-aggregate-shared-row t c = search needs
+
+both-slice-aggregate-shared-row-2 : (t : ℕ) → both-lts.Need-slice-aggregate-shared-row-2 (both-calls t) (both-at t) both.Post
+both-slice-aggregate-shared-row-2 t c = search needs
+
+both-shared-row-requires : (t : ℕ) → both-lts.Need-shared-row-requires (both-calls t) (both-at t) both.Post
+both-shared-row-requires t c κs = (omega (arith, c .before .before .before .before .concept2 .ensures .selection .size), omega (arith, c .before .before .before .before .before .concept .ensures .selection .size))
+
+both-returns : (t : ℕ) → both-lts.Need-returns (both-calls t) (both-at t) both.Post
+both-returns t c = both-span (c .before .before .before .before .before .before .concept .ensures) (c .before .before .before .before .before .concept2 .ensures) (c .shared-row .ensures)
+
+common-path-requires : (t : ℕ) → common-lts.Need-path-requires (common-calls t) (common-at t) common.Post
+common-path-requires t c κs = (omega (arith, c .before .before .before .pre .0), (c .before .before .before .pre .1 .0, c .before .before .before .pre .1 .1 .0))
+
+common-path-requires-2 : (t : ℕ) → common-lts.Need-path-requires-2 (common-calls t) (common-at t) common.Post
+common-path-requires-2 t c κs = (omega (arith, c .before .before .before .before .before .pre .0, c .before .path .ensures .span .earlier), (place-earlier (c .before .before .before .before .before .pre .1 .0) (omega (arith, c .before .path .ensures .span .earlier)), rw (c .before .path .ensures .span .rest) (c .before .before .before .before .before .pre .1 .1 .1)))
+
+common-slice-aggregate-shared : (t : ℕ) → common-lts.Need-slice-aggregate-shared (common-calls t) (common-at t) common.Post
+common-slice-aggregate-shared t c = sym (c .before .path2 .ensures .relation .size)
+
+common-slice-aggregate-shared-2 : (t : ℕ) → common-lts.Need-slice-aggregate-shared-2 (common-calls t) (common-at t) common.Post
+common-slice-aggregate-shared-2 t c = sym (c .before .before .before .before .path .ensures .relation .size)
+
+common-objects-requires : (t : ℕ) → common-lts.Need-objects-requires (common-calls t) (common-at t) common.Post
+common-objects-requires t c κs = search needs
+
+common-shared-requires : (t : ℕ) → common-lts.Need-shared-requires (common-calls t) (common-at t) common.Post
+common-shared-requires t c κs = (omega (arith, place-room (c .before .before .before .before .before .before .before .before .before .pre .1 .0) (c .objects .ensures .value), c .before .before .before .path2 .ensures .relation .size), omega (arith, place-room (c .before .before .before .before .before .before .before .before .before .pre .1 .0) (c .objects .ensures .value), c .before .before .before .before .before .path .ensures .relation .size))
+
+common-returns : (t : ℕ) → common-lts.Need-returns (common-calls t) (common-at t) common.Post
+common-returns t c = common-span (c .before .before .before .before .before .before .before .before .before .before .pre .1 .0) (c .before .before .before .before .before .before .path .ensures) (c .before .before .before .before .path2 .ensures) (c .before .objects .ensures .value) (c .shared .ensures)
+
+concept-sub-at : (t : ℕ) → concept-lts.Need-sub-at (concept-calls t) (concept-at t) concept.Post
+concept-sub-at t c = omega (arith, concept-next (c .before .before .pre .1 .0) (c .before .before .pre .1 .1))
+
+concept-token-at-requires : (t : ℕ) → concept-lts.Need-token-at-requires (concept-calls t) (concept-at t) concept.Post
+concept-token-at-requires t c κs = omega (arith, place-few (c .before .before .pre .1 .0))
+
+concept-enum-known-a : (t : ℕ) → concept-lts.Need-enum-known-a (concept-calls t) (concept-at t) concept.Post
+concept-enum-known-a t c = search needs
+
+concept-kind-set-requires : (t : ℕ) → concept-lts.Need-kind-set-requires (concept-calls t) (concept-at t) concept.Post
+concept-kind-set-requires t c κs = c .before .before .before .before .before .before .pre .1 .0 .evaluable .index .size
+
+concept-enum-known-a-2 : (t : ℕ) → concept-lts.Need-enum-known-a-2 (concept-calls t) (concept-at t) concept.Post
+concept-enum-known-a-2 t c = search needs
+
+concept-add-kind-set : (t : ℕ) → concept-lts.Need-add-kind-set (concept-calls t) (concept-at t) concept.Post
+concept-add-kind-set t c = omega (arith, named-small _ (c .before .before .before .before .before .shared-slice-known .given) _ (sym (c .before .before .before .token-at .ensures) ∙ c .before .a2 .given .1))
+
+concept-kind-set-requires-2 : (t : ℕ) → concept-lts.Need-kind-set-requires-2 (concept-calls t) (concept-at t) concept.Post
+concept-kind-set-requires-2 t c κs = c .before .before .before .before .before .before .pre .1 .0 .evaluable .index .size
+
+concept-enum-told : (t : ℕ) → concept-lts.Need-enum-told (concept-calls t) (concept-at t) concept.Post
+concept-enum-told t c = search needs
+
+concept-both-requires : (t : ℕ) → concept-lts.Need-both-requires (concept-calls t) (concept-at t) concept.Post
+concept-both-requires t c κs = (omega (arith, c .before .before .before .before .before .pre .0, concept-next (c .before .before .before .before .before .pre .1 .0) (c .before .before .before .before .before .pre .1 .1)), (place-earlier (c .before .before .before .before .before .pre .1 .0) (omega arith), (both-token (c .before .before .before .before .before .pre .1 .0) (c .before .before .before .before .before .pre .1 .1) (sym (c .before .before .token-at .ensures) ∙ c .enum-told .given .1) .last, both-token (c .before .before .before .before .before .pre .1 .0) (c .before .before .before .before .before .pre .1 .1) (sym (c .before .before .token-at .ensures) ∙ c .enum-told .given .1) .first)))
+
+concept-enum-told-2 : (t : ℕ) → concept-lts.Need-enum-told-2 (concept-calls t) (concept-at t) concept.Post
+concept-enum-told-2 t c = search needs
+
+concept-reached-requires : (t : ℕ) → concept-lts.Need-reached-requires (concept-calls t) (concept-at t) concept.Post
+concept-reached-requires t c κs = (omega (arith, c .before .before .before .before .before .pre .0, concept-next (c .before .before .before .before .before .pre .1 .0) (c .before .before .before .before .before .pre .1 .1)), (place-earlier (c .before .before .before .before .before .pre .1 .0) (omega arith), reached-token (c .before .before .before .before .before .pre .1 .0) (c .before .before .before .before .before .pre .1 .1) (sym (c .before .before .token-at .ensures) ∙ c .enum-told2 .given .1) .last))
+
+concept-enum-told-3 : (t : ℕ) → concept-lts.Need-enum-told-3 (concept-calls t) (concept-at t) concept.Post
+concept-enum-told-3 t c = search needs
+
+concept-common-requires : (t : ℕ) → concept-lts.Need-common-requires (concept-calls t) (concept-at t) concept.Post
+concept-common-requires t c κs = (omega (arith, c .before .before .before .before .before .pre .0, concept-next (c .before .before .before .before .before .pre .1 .0) (c .before .before .before .before .before .pre .1 .1)), (place-earlier (c .before .before .before .before .before .pre .1 .0) (omega arith), (common-token (c .before .before .before .before .before .pre .1 .0) (c .before .before .before .before .before .pre .1 .1) (sym (c .before .before .token-at .ensures) ∙ c .enum-told3 .given .1) .last, common-token (c .before .before .before .before .before .pre .1 .0) (c .before .before .before .before .before .pre .1 .1) (sym (c .before .before .token-at .ensures) ∙ c .enum-told3 .given .1) .first)))
+
+concept-objects-requires : (t : ℕ) → concept-lts.Need-objects-requires (concept-calls t) (concept-at t) concept.Post
+concept-objects-requires t c κs = search needs
+
+concept-everything-requires : (t : ℕ) → concept-lts.Need-everything-requires (concept-calls t) (concept-at t) concept.Post
+concept-everything-requires t c κs = place-room (c .before .before .before .before .before .pre .1 .0) (c .objects .ensures .value)
+
+concept-returns : (t : ℕ) → concept-lts.Need-returns (concept-calls t) (concept-at t) concept.Post
+concept-returns t c = class-put (c .before .before .before .before .before .before .before .pre .1 .0) (c .before .before .before .before .before .before .before .pre .1 .1) (sym (c .before .before .before .before .token-at .ensures) ∙ c .before .before .a .given .1) (c .kind-set .ensures)
+
+concept-returns-2 : (t : ℕ) → concept-lts.Need-returns-2 (concept-calls t) (concept-at t) concept.Post
+concept-returns-2 t c = constant-put (c .before .before .before .before .before .before .before .pre .1 .0) (c .before .before .before .before .before .before .before .pre .1 .1) (sym (c .before .before .before .before .token-at .ensures) ∙ c .before .before .a2 .given .1) (c .kind-set2 .ensures)
+
+concept-returns-3 : (t : ℕ) → concept-lts.Need-returns-3 (concept-calls t) (concept-at t) concept.Post
+concept-returns-3 t c = both-put (c .before .before .before .before .before .before .pre .1 .0) (c .before .before .before .before .before .before .pre .1 .1) (sym (c .before .before .before .token-at .ensures) ∙ c .before .enum-told .given .1) (c .both .ensures)
+
+concept-returns-4 : (t : ℕ) → concept-lts.Need-returns-4 (concept-calls t) (concept-at t) concept.Post
+concept-returns-4 t c = reached-put (c .before .before .before .before .before .before .pre .1 .0) (c .before .before .before .before .before .before .pre .1 .1) (sym (c .before .before .before .token-at .ensures) ∙ c .before .enum-told2 .given .1) (c .reached .ensures)
+
+concept-returns-5 : (t : ℕ) → concept-lts.Need-returns-5 (concept-calls t) (concept-at t) concept.Post
+concept-returns-5 t c = common-put (c .before .before .before .before .before .before .pre .1 .0) (c .before .before .before .before .before .before .pre .1 .1) (sym (c .before .before .before .token-at .ensures) ∙ c .before .enum-told3 .given .1) (c .common .ensures)
+
+concept-returns-6 : (t : ℕ) → concept-lts.Need-returns-6 (concept-calls t) (concept-at t) concept.Post
+concept-returns-6 t c = everything-put (c .before .before .before .before .before .before .pre .1 .0) (c .before .before .before .before .before .before .pre .1 .1) (rw (← (c .before .before .before .token-at .ensures)) (c .before .before .match .keys6)) (c .before .objects .ensures .value) (c .everything .ensures)
+
+path-sub-at : (t : ℕ) → path-lts.Need-sub-at (path-calls t) (path-at t) path.Post
+path-sub-at t c = omega (arith, path-next (c .before .before .pre .1 .0) (c .before .before .pre .1 .1))
+
+path-token-at-requires : (t : ℕ) → path-lts.Need-token-at-requires (path-calls t) (path-at t) path.Post
+path-token-at-requires t c κs = omega (arith, place-few (c .before .before .pre .1 .0))
+
+path-enum-known-p : (t : ℕ) → path-lts.Need-enum-known-p (path-calls t) (path-at t) path.Post
+path-enum-known-p t c = search needs
+
+path-step-requires : (t : ℕ) → path-lts.Need-step-requires (path-calls t) (path-at t) path.Post
+path-step-requires t c κs = (omega (arith, c .before .before .before .before .before .before .before .pre .0, path-next (c .before .before .before .before .before .before .before .pre .1 .0) (c .before .before .before .before .before .before .before .pre .1 .1)), (place-earlier (c .before .before .before .before .before .before .before .pre .1 .0) (omega arith), (step-token (c .before .before .before .before .before .before .before .pre .1 .0) (c .before .before .before .before .before .before .before .pre .1 .1) false (sym (c .before .before .before .before .token-at .ensures) ∙ c .before .before .p .given .1) .last, (step-token (c .before .before .before .before .before .before .before .pre .1 .0) (c .before .before .before .before .before .before .before .pre .1 .1) false (sym (c .before .before .before .before .token-at .ensures) ∙ c .before .before .p .given .1) .first, named-small _ (c .before .before .before .before .before .before .shared-slice-known .given) _ (sym (c .before .before .before .before .token-at .ensures) ∙ c .before .before .p .given .1)))))
+
+path-enum-known-p-2 : (t : ℕ) → path-lts.Need-enum-known-p-2 (path-calls t) (path-at t) path.Post
+path-enum-known-p-2 t c = search needs
+
+path-step-requires-2 : (t : ℕ) → path-lts.Need-step-requires-2 (path-calls t) (path-at t) path.Post
+path-step-requires-2 t c κs = (omega (arith, c .before .before .before .before .before .before .before .pre .0, path-next (c .before .before .before .before .before .before .before .pre .1 .0) (c .before .before .before .before .before .before .before .pre .1 .1)), (place-earlier (c .before .before .before .before .before .before .before .pre .1 .0) (omega arith), (step-token (c .before .before .before .before .before .before .before .pre .1 .0) (c .before .before .before .before .before .before .before .pre .1 .1) true (sym (c .before .before .before .before .token-at .ensures) ∙ c .before .before .p2 .given .1) .last, (step-token (c .before .before .before .before .before .before .before .pre .1 .0) (c .before .before .before .before .before .before .before .pre .1 .1) true (sym (c .before .before .before .before .token-at .ensures) ∙ c .before .before .p2 .given .1) .first, named-small _ (c .before .before .before .before .before .before .shared-slice-known .given) _ (sym (c .before .before .before .before .token-at .ensures) ∙ c .before .before .p2 .given .1)))))
+
+path-objects-requires : (t : ℕ) → path-lts.Need-objects-requires (path-calls t) (path-at t) path.Post
+path-objects-requires t c κs = search needs
+
+path-identity-requires : (t : ℕ) → path-lts.Need-identity-requires (path-calls t) (path-at t) path.Post
+path-identity-requires t c κs = place-room (c .before .before .before .before .before .before .pre .1 .0) (c .before .objects .ensures .value)
+
+path-returns : (t : ℕ) → path-lts.Need-returns (path-calls t) (path-at t) path.Post
+path-returns t c = step-put (c .before .before .before .before .before .before .before .before .pre .1 .0) (c .before .before .before .before .before .before .before .before .pre .1 .1) false (sym (c .before .before .before .before .before .token-at .ensures) ∙ c .before .before .before .p .given .1) (c .step .ensures)
+
+path-returns-2 : (t : ℕ) → path-lts.Need-returns-2 (path-calls t) (path-at t) path.Post
+path-returns-2 t c = step-put (c .before .before .before .before .before .before .before .before .pre .1 .0) (c .before .before .before .before .before .before .before .before .pre .1 .1) true (sym (c .before .before .before .before .before .token-at .ensures) ∙ c .before .before .before .p2 .given .1) (c .step2 .ensures)
+
+path-returns-3 : (t : ℕ) → path-lts.Need-returns-3 (path-calls t) (path-at t) path.Post
+path-returns-3 t c = empty-put (c .before .before .before .before .before .before .before .pre .1 .0) (c .before .before .before .before .before .before .before .pre .1 .1) (rw (← (c .before .before .before .before .token-at .ensures)) (c .before .before .before .match .keys3)) (c .before .before .objects .ensures .value) (c .identity .ensures)
+
+reached-path-requires : (t : ℕ) → reached-lts.Need-path-requires (reached-calls t) (reached-at t) reached.Post
+reached-path-requires t c κs = (omega (arith, c .before .before .before .pre .0), (c .before .before .before .pre .1 .0, c .before .before .before .pre .1 .1))
+
+reached-slice-aggregate-shared : (t : ℕ) → reached-lts.Need-slice-aggregate-shared (reached-calls t) (reached-at t) reached.Post
+reached-slice-aggregate-shared t c = sym (c .before .path .ensures .relation .size)
+
+reached-slice-aggregate-shared-2 : (t : ℕ) → reached-lts.Need-slice-aggregate-shared-2 (reached-calls t) (reached-at t) reached.Post
+reached-slice-aggregate-shared-2 t c = sym (c .before .before .path .ensures .relation .size)
+
+reached-objects-requires : (t : ℕ) → reached-lts.Need-objects-requires (reached-calls t) (reached-at t) reached.Post
+reached-objects-requires t c κs = search needs
+
+reached-shared-requires : (t : ℕ) → reached-lts.Need-shared-requires (reached-calls t) (reached-at t) reached.Post
+reached-shared-requires t c κs = (omega (arith, place-room (c .before .before .before .before .before .before .before .pre .1 .0) (c .objects .ensures .value), c .before .before .before .path .ensures .relation .size), omega (arith, place-room (c .before .before .before .before .before .before .before .pre .1 .0) (c .objects .ensures .value), c .before .before .before .path .ensures .relation .size))
+
+reached-returns : (t : ℕ) → reached-lts.Need-returns (reached-calls t) (reached-at t) reached.Post
+reached-returns t c = reached-span (c .before .before .before .before .before .before .before .before .pre .1 .0) (c .before .before .before .before .path .ensures) (c .before .objects .ensures .value) (c .shared .ensures)
+
+step-concept-requires : (t : ℕ) → step-lts.Need-concept-requires (step-calls t) (step-at t) step.Post
+step-concept-requires t c κs = (omega (arith, c .before .before .pre .0), (c .before .before .pre .1 .0, c .before .before .pre .1 .1 .0))
+
+step-path-requires : (t : ℕ) → step-lts.Need-path-requires (step-calls t) (step-at t) step.Post
+step-path-requires t c κs = (omega (arith, c .before .before .before .before .pre .0, c .before .concept .ensures .span .earlier), (place-earlier (c .before .before .before .before .pre .1 .0) (omega (arith, c .before .concept .ensures .span .earlier)), rw (c .before .concept .ensures .span .rest) (c .before .before .before .before .pre .1 .1 .1 .0)))
+
+step-add-t13 : (t : ℕ) → step-lts.Need-add-t13 (step-calls t) (step-at t) step.Post
+step-add-t13 t c = omega (arith, c .before .before .before .before .before .before .pre .1 .1 .1 .1)
+
+step-advance-requires : (t : ℕ) → step-lts.Need-advance-requires (step-calls t) (step-at t) step.Post
+step-advance-requires t c κs = (c .before .before .before .before .before .concept .ensures .selection .size, (c .before .before .before .path .ensures .relation .size, place-end (c .before .before .before .before .before .before .before .before .pre .1 .0) (c .before .before .before .before .before .before .before .before .args .backward)))
+
+step-returns : (t : ℕ) → step-lts.Need-returns (step-calls t) (step-at t) step.Post
+step-returns t c = step-span (c .before .before .before .before .before .before .before .before .before .pre .1 .0) _ _ (c .before .before .before .before .before .before .concept .ensures) (c .before .before .before .before .path .ensures) (c .advance .ensures)
+
+pub +both+common+concept+path+reached+step-spec : {M : Type 1} → statement M
++both+common+concept+path+reached+step-spec =
+    close μ-both μ-common μ-concept μ-path μ-reached μ-step (λ t. both-lts.spec (both-calls t)
+    (both-at t)
+    both.Post
+    (both-concept-requires t)
+    (both-concept-requires-2 t)
+    (both-slice-aggregate-shared-row t)
+    (both-slice-aggregate-shared-row-2 t)
+    (both-shared-row-requires t)
+    (both-returns t))
+    (λ t. common-lts.spec (common-calls t)
+    (common-at t)
+    common.Post
+    (common-path-requires t)
+    (common-path-requires-2 t)
+    (common-slice-aggregate-shared t)
+    (common-slice-aggregate-shared-2 t)
+    (common-objects-requires t)
+    (common-shared-requires t)
+    (common-returns t))
+    (λ t. concept-lts.spec (concept-calls t)
+    (concept-at t)
+    concept.Post
+    (concept-sub-at t)
+    (concept-token-at-requires t)
+    (concept-enum-known-a t)
+    (concept-kind-set-requires t)
+    (concept-enum-known-a-2 t)
+    (concept-add-kind-set t)
+    (concept-kind-set-requires-2 t)
+    (concept-enum-told t)
+    (concept-both-requires t)
+    (concept-enum-told-2 t)
+    (concept-reached-requires t)
+    (concept-enum-told-3 t)
+    (concept-common-requires t)
+    (concept-objects-requires t)
+    (concept-everything-requires t)
+    (concept-returns t)
+    (concept-returns-2 t)
+    (concept-returns-3 t)
+    (concept-returns-4 t)
+    (concept-returns-5 t)
+    (concept-returns-6 t))
+    (λ t. path-lts.spec (path-calls t)
+    (path-at t)
+    path.Post
+    (path-sub-at t)
+    (path-token-at-requires t)
+    (path-enum-known-p t)
+    (path-step-requires t)
+    (path-enum-known-p-2 t)
+    (path-step-requires-2 t)
+    (path-objects-requires t)
+    (path-identity-requires t)
+    (path-returns t)
+    (path-returns-2 t)
+    (path-returns-3 t))
+    (λ t. reached-lts.spec (reached-calls t)
+    (reached-at t)
+    reached.Post
+    (reached-path-requires t)
+    (reached-slice-aggregate-shared t)
+    (reached-slice-aggregate-shared-2 t)
+    (reached-objects-requires t)
+    (reached-shared-requires t)
+    (reached-returns t))
+    λ t. step-lts.spec (step-calls t)
+    (step-at t)
+    step.Post
+    (step-concept-requires t)
+    (step-path-requires t)
+    (step-add-t13 t)
+    (step-advance-requires t)
+    (step-returns t)

@@ -1,0 +1,7 @@
+-- What evaluation promises.
+pub mod Selection
+pub mod Evaluable
+-- What contracts of helper functions cite, and nothing above them.
+pub mod Rows
+pub mod Steps
+pub mod Places

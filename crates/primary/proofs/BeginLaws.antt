@@ -1,0 +1,66 @@
+-- A list that is filled from its start, and the model's start and clash in the code's terms.
+use Prim.Native.Nat.{ℕ, zero, suc, _+_, _≤_, _<_}
+use native.Mathlib.Nat.{zero-add}
+use native.Mathlib.Numerals.{add-one}
+use native.Mathlib.Omega.{arith}
+use mathlib.Core.Bool.{Bool, _||_}
+use mathlib.Core.List.{List, [], _∷_, _++_}
+use mathlib.Core.Path.{_≡_, refl, sym, ap, ap₂, _∙_}
+use lib.ListN.{length, set, take, replicate}
+use lib.Seq.{take-all, take-suc-set}
+use Rattle.records.specs.Finite.{any}
+use Rattle.records.proofs.FiniteLaws.{any-more}
+use Rattle.chase.specs.Task.{Task, nodes}
+use Rattle.chase.specs.Steps.{conceptSteps}
+use Rattle.chase.specs.Primary.{Prime, repOf, numbersFrom, begin, primary, clash}
+use Rattle.primary.specs.Formed.{prime}
+use Rattle.primary.specs.Clash.{clashesWith, clashesIn}
+
+-- f 0, f 1, .. (n numbers)
+module _ (f : ℕ → ℕ) where
+  abbrev pub listed : ℕ → List ℕ
+  listed zero = []
+  listed (suc n) = listed n ++ (f n ∷ [])
+
+  pub listed-more : (l : List ℕ) (i v : ℕ) → i < length l → take i l ≡ listed i → v ≡ f i → take (i + 1) (set l i v) ≡ listed (i + 1)
+  listed-more l i v h e k =
+      ap (λ (j : ℕ). take j (set l i v)) (add-one i) ∙ take-suc-set l i v h ∙ ap₂ (λ (m : List ℕ) (u : ℕ). m ++ (u ∷ [])) e k
+      ∙ sym (ap listed (add-one i))
+
+  pub listed-all : (l : List ℕ) (i : ℕ) → length l ≤ i → take i l ≡ listed i → l ≡ listed i
+  listed-all l i h e = sym (take-all i l h) ∙ e
+
+numbers-snoc : (k n : ℕ) → numbersFrom k (suc n) ≡ numbersFrom k n ++ ((k + n) ∷ [])
+numbers-snoc k zero = ap (λ (v : ℕ). v ∷ []) (omega arith)
+numbers-snoc k (suc n) =
+    let q : suc k + n ≡ k + suc n = omega arith in
+    ap (λ (m : List ℕ). k ∷ m) (numbers-snoc (suc k) n ∙ ap (λ (v : ℕ). numbersFrom (suc k) n ++ (v ∷ [])) q)
+
+pub listed-numbers : (n : ℕ) → listed (λ i. i) n ≡ numbersFrom 0 n
+listed-numbers zero = refl
+listed-numbers (suc n) =
+    ap₂ (λ (m : List ℕ) (v : ℕ). m ++ (v ∷ [])) (listed-numbers n) (sym (zero-add n)) ∙ sym (numbers-snoc 0 n)
+
+replicate-snoc : (n v : ℕ) → replicate (suc n) v ≡ replicate n v ++ (v ∷ [])
+replicate-snoc zero v = refl
+replicate-snoc (suc n) v = ap (λ (m : List ℕ). v ∷ m) (replicate-snoc n v)
+
+pub listed-zeros : (n : ℕ) → listed (λ i. 0) n ≡ replicate n 0
+listed-zeros zero = refl
+listed-zeros (suc n) = ap (λ (m : List ℕ). m ++ (0 ∷ [])) (listed-zeros n) ∙ sym (replicate-snoc n 0)
+
+-- a search that keeps whether some number passed
+pub any-turn : (f : ℕ → Bool) (n : ℕ) (b : Bool) → b ≡ any n f → (b || f n) ≡ any (n + 1) f
+any-turn f n b e = ap (λ (t : Bool). t || f n) e ∙ sym (any-more f n)
+
+-- for callers: the start of a task, and its clash
+pub begin-is : (t : Task) (r s : List ℕ) (n : ℕ) → n ≡ nodes t → r ≡ numbersFrom 0 n → s ≡ replicate n 0 → prime r s ≡ begin t
+unfolding begin
+begin-is t r s n h p q =
+    ap₂ prime p q ∙ ap (λ (m : ℕ). prime (numbersFrom 0 m) (replicate m 0)) h
+
+pub clash-is : (t : Task) (r s : List ℕ) → prime r s ≡ primary t
+    → clashesIn r (suc (conceptSteps (t .query))) (t .schema .signature .constants) ≡ clash t
+unfolding clash clashesIn clashesWith repOf
+clash-is t r s e =
+    ap (λ (x : Prime). clashesIn (x .reps) (suc (conceptSteps (t .query))) (t .schema .signature .constants)) e

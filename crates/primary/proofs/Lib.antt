@@ -1,0 +1,6 @@
+-- Laws that callers' proofs cite, and those that several proofs here share.
+pub mod TurnLaws
+pub mod FormedLaws
+pub mod SumLaws
+pub mod SettleLaws
+pub mod BeginLaws

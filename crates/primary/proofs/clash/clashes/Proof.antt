@@ -1,0 +1,40 @@
+-- Whether a constant passed is one object with an earlier one.
+use Prim.Native.Nat.{ℕ, _-_, _≤_}
+use borrow.Author.Needs.{needs}
+use native.Mathlib.Omega.{arith}
+use mathlib.Core.Path.{_≡_, sym, ap, _∙_}
+use native.Mathlib.Nat.{le-antisymm}
+use Rattle.records.specs.Finite.{any}
+use Rattle.records.proofs.FiniteLaws.{any-zero}
+use Rattle.primary.proofs.BeginLaws.{any-turn}
+use Rattle.primary.specs.Clash.{clashesWith, clashesIn}
+use Rattle.primary.proofs.clash.clashes.Statement.{statement}
+use Rattle.primary.proofs.clash.clashes.Tie as tie
+
+abbrev Inv-loop : tie.InvT-loop
+Inv-loop reps first constants found₀ b₀ found b = (b ≤ constants) × (found ≡ any b (clashesWith reps first))
+
+abbrev μ-loop : tie.MeasureT-loop
+μ-loop reps first constants found₀ b₀ found b = constants - b
+
+loop-holds : tie.Need-loop-holds Inv-loop μ-loop
+loop-holds c = (omega arith, sym (any-zero _))
+
+clashes-with-requires : tie.Need-clashes-with-requires Inv-loop μ-loop
+clashes-with-requires c κs = omega arith
+
+add-b : tie.Need-add-b Inv-loop μ-loop
+add-b c = search needs
+
+loop-less : tie.Need-loop-less Inv-loop μ-loop
+loop-less c = omega arith
+
+loop-again : tie.Need-loop-again Inv-loop μ-loop
+loop-again c = (omega arith, rw (c .clashes-with .ensures) (any-turn (clashesWith (c .before .before .before .before .args .reps .now) (c .before .before .before .before .args .first)) _ _ (c .before .before .loop .inv .1)))
+
+returns : tie.Need-returns Inv-loop μ-loop
+unfolding clashesIn
+returns c = c .before .loop .inv .1 ∙ ap (λ (k : ℕ). any k (clashesWith (c .before .before .before .args .reps .now) (c .before .before .before .args .first))) (le-antisymm (c .before .loop .inv .0) (c .loop-test .left))
+
+pub clashes-spec : {M : Type 1} → statement M
+clashes-spec = tie.close (tie.spec Inv-loop μ-loop loop-holds clashes-with-requires add-b loop-less loop-again returns)

@@ -1,0 +1,59 @@
+// One round of all rules, and the weight by which rounds are seen to have an end.
+use crate::rules::assert_all;
+use crate::rules::equate_all;
+use crate::rules::lift_all;
+use crate::rules::type_all;
+use crate::rules::unify_all;
+ghost use mathlib.Core.Path.{_≡_};
+ghost use mathlib.Core.List.{map};
+ghost use Prim.Native.Nat.{_≤_};
+ghost use lib.ListN.{length};
+ghost use Rattle.records.specs.SchemaRecord.{schemaOf};
+ghost use Rattle.records.specs.Refusal.{AcceptedSchema};
+ghost use Rattle.chase.specs.Primary.{weight as weightOf};
+ghost use Rattle.primary.specs.Formed.{prime, Formed, Becomes, maxNodes};
+ghost use Rattle.primary.specs.Words.{memberOf, equationOf, edgeOf, FactsIn};
+ghost use Rattle.primary.specs.Pass.{passOn, Sum};
+
+pub fn pass(
+    schema: &[u16],
+    members: &[u16],
+    equations: &[u16],
+    edges: &[u16],
+    reps: &mut [u32],
+    sets: &mut [u32],
+)
+    requires { ⌜ AcceptedSchema (now schema) × Formed (now reps) (now sets) × FactsIn (length (now reps)) (now members) (now equations) (now edges) ⌝ }
+    ensures { λ _. ⌜ Becomes (length (now (reps .entry))) (now (reps .exit)) (now (sets .exit)) (passOn (schemaOf (now (schema .entry))) (map memberOf (now (members .entry))) (map equationOf (now (equations .entry))) (map edgeOf (now (edges .entry))) (length (now (reps .entry))) (prime (now (reps .entry)) (now (sets .entry)))) ⌝ }
+{
+    equate_all(equations, reps, sets);
+    assert_all(members, reps, sets);
+    lift_all(schema, reps, sets);
+    type_all(schema, edges, reps, sets);
+    unify_all(schema, edges, reps, sets);
+}
+
+fn wide(x: u32) -> u64
+    ensures { λ r. ⌜ r ≡ x ⌝ }
+{
+    x as u64
+}
+
+fn total(l: &[u32]) -> u64
+    requires { ⌜ length (now l) ≤ maxNodes ⌝ }
+    ensures { λ r. ⌜ Sum (now (l .entry)) r ⌝ }
+{
+    let n = l.len();
+    let mut sum = 0;
+    for i in 0..n {
+        sum += wide(l[i]);
+    }
+    sum
+}
+
+pub fn weight(reps: &[u32], sets: &[u32]) -> u64
+    requires { ⌜ (length (now reps) ≤ maxNodes) × (length (now sets) ≤ maxNodes) ⌝ }
+    ensures { λ r. ⌜ r ≡ weightOf (prime (now (reps .entry)) (now (sets .entry))) ⌝ }
+{
+    total(reps) + total(sets)
+}
