@@ -12,9 +12,9 @@ use Rattle.chase.specs.Steps.{conceptSteps, pathSteps}
 use Rattle.chase.specs.Facts.{Facts, none, member, equal, related, _⊕_, endNode, conceptFacts, pathFacts}
 use Rattle.chase.specs.Ground.{Ground}
 use Rattle.chase.specs.Forest.{Forest, walk, trek}
-use Rattle.chase.specs.Tokens.{startOf, conceptAt, pathAt, HasConcept, stepNumber, factsAt, pathFactsAt, endAt}
+use Rattle.chase.specs.Tokens.{startOf, conceptAt, pathAt, HasConcept, HasPath, stepNumber, factsAt, pathFactsAt, endAt}
 use Rattle.chase.proofs.PileLaws.{Ends}
-use Rattle.chase.proofs.SpellingLaws.{Spells, SpellsPath, ends-spells}
+use Rattle.chase.proofs.SpellingLaws.{Spells, SpellsPath, ends-spells, path-spells}
 use Rattle.chase.proofs.TokenLaws.{Reads, ReadsStep, ReadsPath, number-concept, number-path}
 
 pub ⊕-assoc : (F G H : Facts) → F ⊕ G ⊕ H ≡ F ⊕ (G ⊕ H)
@@ -79,7 +79,7 @@ module _ (first : ℕ) (w : List ℕ) (e n : ℕ) where
         ap₂ (λ (p : Path) (i : ℕ). endNode p n (stepNumber w i)) (h .0) (h .1) ∙ b,
       )
 
--- There are no more facts than tokens.
+-- There are no more facts than tokens, of each item between its start and its end.
 unfoldable pub factsSize : Facts → ℕ
 factsSize F = length (F .members) + length (F .equations) + length (F .edges)
 
@@ -145,10 +145,15 @@ module _ (first : ℕ) (w : List ℕ) where
           s .4,
         )
 
-  pub facts-fit : (e n : ℕ) → HasConcept w e → factsSize (factsAt first w e n) ≤ e
+  pub facts-fit : (e n : ℕ) → HasConcept w e → factsSize (factsAt first w e n) + startOf w e 1 ≤ e
   unfolding HasConcept Ends
   facts-fit e n h =
-      omega (arith, concept-fits (conceptAt w e) n (stepNumber w (startOf w e 1)) (startOf w e 1) e (ends-spells w (conceptAt w e) e h))
+      concept-fits (conceptAt w e) n (stepNumber w (startOf w e 1)) (startOf w e 1) e (ends-spells w (conceptAt w e) e h)
+
+  pub path-facts-fit : (e n : ℕ) → HasPath w e → factsSize (pathFactsAt first w e n) + startOf w e 1 ≤ e
+  unfolding HasPath Ends
+  path-facts-fit e n h =
+      path-fits (pathAt w e) n (stepNumber w (startOf w e 1)) (startOf w e 1) e (path-spells w (pathAt w e) e h)
 
 -- The walk of the concept, and of the path, that ends at e.
 module _ (S : Schema) (G : Ground) (w : List ℕ) where

@@ -79,7 +79,7 @@ module _ (S : Schema) (G : Ground) where
       )
 
   mutual
-    walk-size : (C : Concept) (s : ℕ) (l : List ℕ) (T : Forest) (j : ℕ) → length l ≤ j
+    pub walk-size : (C : Concept) (s : ℕ) (l : List ℕ) (T : Forest) (j : ℕ) → length l ≤ j
         → size G (walk S G C s l T) + tri j ≤ size G T + tri (j + conceptSteps C)
     walk-size (class A) s l T j h = omega (arith, tri-mono j 0)
     walk-size everything s l T j h = omega (arith, tri-mono j 0)
@@ -90,7 +90,7 @@ module _ (S : Schema) (G : Ground) where
     walk-size (common p q) s l T j h =
         omega (arith, trek-size p s l T j h .0, trek-size q s l (trek S G p s l T .0) j h .0, tri-convex j (pathSteps p) (pathSteps q))
 
-    trek-size : (p : Path) (s : ℕ) (l : List ℕ) (T : Forest) (j : ℕ) → length l ≤ j
+    pub trek-size : (p : Path) (s : ℕ) (l : List ℕ) (T : Forest) (j : ℕ) → length l ≤ j
         → (size G (trek S G p s l T .0) + tri j ≤ size G T + tri (j + pathSteps p)) × (length (trek S G p s l T .1) ≤ j + pathSteps p)
     trek-size empty s l T j h = (omega (arith, tri-mono j 0), omega arith)
     trek-size (step p r P C) s l T j h =
