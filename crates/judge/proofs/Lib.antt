@@ -3,3 +3,4 @@ mod RefusalLaws
 mod LegalLaws
 mod SelectLaws
 mod MarkLaws
+mod CounterexampleLaws

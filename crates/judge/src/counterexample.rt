@@ -1,8 +1,20 @@
 // Counterexample: the lowest object of a legal state that is in the query and outside the view.
+use records::concept::ConceptAnswer;
+use records::concept::check_query;
+use records::concept::check_view;
+use records::schema::SchemaAnswer;
+use records::schema::Signature;
+use records::schema::axioms;
+use records::schema::check_schema;
+use records::state::StateAnswer;
+use records::state::check_state;
+use records::state::objects;
 ghost use mathlib.Core.Path.{_≡_};
-ghost use mathlib.Core.Bool.{not};
 ghost use Rattle.records.specs.Finite.{least};
-ghost use Rattle.judge.specs.Counterexample.{apart};
+ghost use Rattle.records.specs.SchemaRecord.{schemaOf};
+ghost use Rattle.records.specs.ConceptRecord.{conceptOf};
+ghost use Rattle.records.specs.StateRecord.{stateOf};
+ghost use Rattle.judge.specs.Counterexample.{apart, finding, counterexampleAnswer, Accepted};
 
 pub enum CounterexampleAnswer {
     No,
@@ -22,4 +34,58 @@ fn lowest(query: &[u64; 8], view: &[u64; 8], n: usize) -> usize
         }
     }
     n
+}
+
+// What accepted records answer.
+fn find(
+    s: Signature,
+    schema: &[u16],
+    query: &[u16],
+    view: &[u16],
+    state: &[u16],
+) -> CounterexampleAnswer
+    requires { ⌜ Accepted s (now schema) (now query) (now view) (now state) ⌝ }
+    ensures { λ r. ⌜ r ≡ finding (schemaOf (now (schema .entry))) (stateOf (now (state .entry))) (conceptOf (now (query .entry))) (conceptOf (now (view .entry))) ⌝ }
+{
+    let seen = index::left::index(state);
+    let place = legality::first_broken(s, schema, state, &seen);
+    if place != axioms(schema) {
+        return CounterexampleAnswer::No;
+    }
+    let inside = evaluate::evaluate(s, query, state, &seen);
+    let outside = evaluate::evaluate(s, view, state, &seen);
+    let n = objects(state);
+    let d = lowest(&inside, &outside, n);
+    if d < n {
+        CounterexampleAnswer::Yes(d)
+    } else {
+        CounterexampleAnswer::No
+    }
+}
+
+pub fn counterexample(
+    schema: &[u16],
+    query: &[u16],
+    view: &[u16],
+    state: &[u16],
+) -> CounterexampleAnswer
+    ensures { λ r. ⌜ r ≡ counterexampleAnswer (now (schema .entry)) (now (query .entry)) (now (view .entry)) (now (state .entry)) ⌝ }
+{
+    let checked = check_schema(schema);
+    let SchemaAnswer::Accepted(s) = checked else {
+        return CounterexampleAnswer::Refused(checked.number());
+    };
+    let read = check_query(s, query);
+    let ConceptAnswer::Accepted = read else {
+        return CounterexampleAnswer::Refused(read.number());
+    };
+    let stored = check_view(s, view);
+    let ConceptAnswer::Accepted = stored else {
+        return CounterexampleAnswer::Refused(stored.number());
+    };
+    let judged = check_state(s, state);
+    let StateAnswer::Accepted = judged else {
+        return CounterexampleAnswer::Refused(judged.number());
+    };
+    find(s, schema, query, view, state)
 }
