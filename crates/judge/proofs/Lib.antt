@@ -1,6 +1,6 @@
 -- Laws that the entries' proofs share.
-mod RefusalLaws
-mod LegalLaws
-mod SelectLaws
+pub mod RefusalLaws
+pub mod LegalLaws
+pub mod SelectLaws
 mod MarkLaws
-mod CounterexampleLaws
+pub mod CounterexampleLaws

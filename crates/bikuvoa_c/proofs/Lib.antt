@@ -1,0 +1,2 @@
+-- That the numbers in answers fit.
+mod FitLaws

@@ -1,0 +1,2 @@
+-- What crosses to C of an answer.
+pub mod Answers
