@@ -34,6 +34,9 @@ static const Record NOTHING = RECORD(0, 0, 0, 0);
 static const Record S = RECORD(3, 6, 2, 512, 513, 12288, 12289, 16384, 0, 0, 0, 2, 2, 0);
 static const Record NO_OBJECTS = RECORD(0, 0);
 
+static const Record EVERYTHING = RECORD(1, 0, 2, 0);
+static const Record PERSON = RECORD(1, 0, 1, 1);
+
 static const struct {
     Record concept;
     uint16_t marks[3];
@@ -66,8 +69,7 @@ static void twelve_states(void) {
 }
 
 static void counterexamples(void) {
-    const Record everything = SELECTIONS[0].concept;
-    const Record person = RECORD(1, 0, 1, 1);
+    const Record everything = EVERYTHING, person = PERSON;
     uint64_t found = 99;
     check(bikuvoa_counterexample(X.at, X.words, everything.at, everything.words, person.at, person.words, S.at, S.words, &found) == 0
               && found == 3, "the lowest object", 0);
@@ -89,9 +91,8 @@ static const int NUMBERS[PLACES] = {2, 4, 4, 4, 1};
 
 /* Place p of a call faulty in the n-th way; whether later places are faulty too is the caller's choice. */
 static Record record_at(int p, int faulty, int n) {
-    static const Record good[PLACES] = {RECORD(2, 1, 1, 2, 1025, 1280, 0, 256), RECORD(1, 0, 2, 0), RECORD(1, 0, 1, 1),
-                                        RECORD(3, 6, 2, 512, 513, 12288, 12289, 16384, 0, 0, 0, 2, 2, 0), {3, NULL}};
-    static const Record short_lent = {2, NULL};
+    const Record good[PLACES] = {X, EVERYTHING, PERSON, S, {3, NULL}};
+    const Record short_lent = {2, NULL};
     if (!faulty) return good[p];
     if (p == SCHEMA) return BAD_SCHEMAS[n];
     if (p == STATE) return BAD_STATES[n];
@@ -152,8 +153,8 @@ static size_t largest_state(uint16_t *words, int objects) {
 
 static void limits(void) {
     static uint16_t state[MAX_WORDS], lent[481];
-    static const Record schema = RECORD(24, 8, 4, 1, 1280, 0);
-    static const Record path = RECORD(4, 1, 5, 1, 6, 8, 0, 23, 7, 0);
+    const Record schema = RECORD(24, 8, 4, 1, 1280, 0);
+    const Record path = RECORD(4, 1, 5, 1, 6, 8, 0, 23, 7, 0);
     uint64_t out = 99;
     size_t words = largest_state(state, 480);
     check(words == 30762, "the words of the largest state", 0);
