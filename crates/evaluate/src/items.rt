@@ -1,7 +1,5 @@
 // The evaluation of a concept record from the right: the item that ends at a place is read at the token before it, its last
 // operand ends there, and the operand before that one where the last one starts. So each token is evaluated once.
-use crate::layout::ATTRIBUTE_KINDS;
-use crate::layout::CONSTANT_KINDS;
 use crate::layout::RELATION_WORDS;
 use crate::layout::SET_WORDS;
 use crate::relation::Step;
@@ -14,6 +12,8 @@ use crate::sets::shared_row;
 use index::left::TABLE_WORDS;
 use records::concept::Token;
 use records::concept::token_at;
+use records::state::ATTRIBUTE_KINDS;
+use records::state::CONSTANT_KINDS;
 use records::state::objects;
 ghost use Prim.Native.Nat.{_<_, _^_};
 ghost use Rattle.records.specs.ConceptRecord.{pileAfter};

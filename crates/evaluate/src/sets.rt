@@ -1,8 +1,8 @@
 // Sets of objects as words of bits, and the rows that a relation has of them. A set is a relation of one row.
 use crate::layout::SET_WORDS;
 use index::bits::insert;
-use index::left::KINDS;
 use index::left::TABLE_WORDS;
+use records::state::FACT_KINDS;
 ghost use Prim.Native.Nat.{ℕ, _+_, _*_, _≤_, _<_};
 ghost use mathlib.Core.Path.{_≡_};
 ghost use lib.ListN.{length};
@@ -56,7 +56,7 @@ pub fn kind_set(seen: &[u64; TABLE_WORDS], kind: usize) -> [u64; SET_WORDS]
     requires { ⌜ length (now seen) ≡ tableWords ⌝ }
     ensures { λ r. ⌜ Row (now (seen .entry)) kind r ⌝ }
 {
-    if KINDS <= kind {
+    if FACT_KINDS <= kind {
         return [0u64; SET_WORDS];
     }
     shared_row(seen, seen, kind)

@@ -2,16 +2,14 @@
 use crate::bits::WORD_BITS;
 use crate::bits::insert;
 use records::layout::left;
+use records::state::FACT_KINDS;
+use records::state::OBJECT_PART;
 use records::state::facts;
 use records::state::state_layout;
 ghost use Rattle.index.specs.Index.{Indexes};
 
-// How many kinds of fact there are, and how many objects a left word can tell apart.
-pub const KINDS: usize = 36;
-
-pub const OBJECT_PART: usize = 512;
-
-pub const TABLE_BITS: usize = KINDS * OBJECT_PART;
+// A bit for each kind of fact and each object that a left word can tell apart.
+pub const TABLE_BITS: usize = FACT_KINDS * OBJECT_PART;
 
 pub const TABLE_WORDS: usize = TABLE_BITS / WORD_BITS;
 

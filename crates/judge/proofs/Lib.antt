@@ -1,6 +1,7 @@
--- Laws that the entries' proofs share.
+-- Laws that the entries' proofs share, and what the answers say in the terms of the definitions.
 pub mod RefusalLaws
 pub mod LegalLaws
 pub mod SelectLaws
 mod MarkLaws
 pub mod CounterexampleLaws
+pub mod Exactness

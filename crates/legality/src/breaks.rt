@@ -1,9 +1,10 @@
 // Whether one object or one fact breaks an axiom. Membership is one look-up in the index of the state.
 use index::bits::has;
-use index::left::OBJECT_PART;
 use records::layout::left;
 use records::layout::right;
 use records::schema::Axiom;
+use records::state::ATTRIBUTE_KINDS;
+use records::state::OBJECT_PART;
 use records::state::kind_at;
 use records::state::object_at;
 use records::state::state_layout;
@@ -11,9 +12,6 @@ ghost use mathlib.Core.Path.{_≡_};
 ghost use Prim.Native.Nat.{_<_, _^_};
 ghost use Rattle.records.specs.Layout.{factKinds, maxAttributes};
 ghost use Rattle.legality.specs.Breaks.{Named, seenAt, isPair, repeatsLeft, objectBreaks, pairBreaks};
-
-// The first fact kind of attributes.
-const ATTRIBUTE_KINDS: usize = 24;
 
 // Some fact is of this kind and object.
 fn member(seen: &[u64], kind: usize, object: usize) -> bool

@@ -14,7 +14,7 @@ ghost use Rattle.records.specs.ConceptRecord.{tokenOf, tokenAt};
 ghost use Rattle.records.specs.Refusal.{suits as suitsIn, refusal-3, faultyToken, isStep, conceptAnswer, conceptNumber};
 ghost use Rattle.records.specs.Scan.{putSort, joinSorts, reachSort, pushSort, isConceptSort};
 
-const MAX_TOKENS: usize = 64;
+pub const MAX_TOKENS: usize = 64;
 
 // The roles of a concept, with the most steps that each may have.
 pub struct Query;

@@ -12,13 +12,13 @@ ghost use Rattle.records.specs.Layout.{entries as entriesOf, schemaLayou
 ghost use Rattle.records.specs.SchemaRecord.{signatureOf, axiomOf, schemaOf};
 ghost use Rattle.records.specs.Refusal.{oversized as oversizedIn, declares as declaresIn, faultyAxiom, refusal-1, schemaAnswer, schemaNumber};
 
-const MAX_CLASSES: usize = 24;
+pub const MAX_CLASSES: usize = 24;
 
-const MAX_ATTRIBUTES: usize = 8;
+pub const MAX_ATTRIBUTES: usize = 8;
 
-const MAX_CONSTANTS: usize = 4;
+pub const MAX_CONSTANTS: usize = 4;
 
-const MAX_AXIOMS: usize = 96;
+pub const MAX_AXIOMS: usize = 96;
 // A word of two parts is the first times this plus the second.
 const BYTE_PART: usize = 256;
 

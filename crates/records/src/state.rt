@@ -15,17 +15,17 @@ ghost use Rattle.records.specs.StateRecord.{objects as objectsOf, kindAt
 ghost use Rattle.records.specs.Refusal.{refusal-7, declaresKind, suitsKind, faultyFact, ascends as ascendsAt, stateAnswer, stateNumber};
 ghost use Rattle.records.specs.Scan.{followsAt, slotOf, repeatsIn, misnamed as misnamedIn};
 
-const MAX_OBJECTS: usize = 480;
+pub const MAX_OBJECTS: usize = 480;
 
-const MAX_FACTS: usize = 15_380;
+pub const MAX_FACTS: usize = 15_380;
 // A fact's left word is its kind times this plus its object.
-const OBJECT_PART: usize = 512;
+pub const OBJECT_PART: usize = 512;
 // The first kind of attributes, the first of constants, and one past the last.
-const ATTRIBUTE_KINDS: usize = 24;
+pub const ATTRIBUTE_KINDS: usize = 24;
 
-const CONSTANT_KINDS: usize = 32;
+pub const CONSTANT_KINDS: usize = 32;
 
-const FACT_KINDS: usize = 36;
+pub const FACT_KINDS: usize = 36;
 // A place for each constant that a fact can name, and one more for all other facts.
 const SLOTS: usize = FACT_KINDS - CONSTANT_KINDS + 1;
 
