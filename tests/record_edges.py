@@ -6,45 +6,13 @@ gives it (0: accepted), worked out by hand.
   record_edges.py check   fail if what is written there differs from this table
 """
 import pathlib
-import struct
 import sys
+
+from words import (BACKWARD, BOTH, CLASS, COMMON, CONSTANT, EMPTY, EVERYTHING, FORWARD, REACHED, axiom, concept, kept, member,
+                   name, pair, schema, state, words)
 
 CRATE = pathlib.Path(__file__).resolve().parent.parent / "crates" / "record_edges"
 ROLES = {"schema": 1, "query": 2, "view": 3, "state": 4}
-
-# Token sorts.
-CLASS, EVERYTHING, CONSTANT, BOTH, EMPTY, FORWARD, BACKWARD, REACHED, COMMON = range(1, 10)
-
-
-def schema(classes, attributes, constants, axioms=()):
-    left, right = zip(*axioms) if axioms else ((), ())
-    return [classes, attributes, constants, len(axioms), *left, *right]
-
-
-def concept(tokens, steps=None):
-    pairs = [t if isinstance(t, tuple) else (t, 0) for t in tokens]
-    counted = sum(sort in (FORWARD, BACKWARD) for sort, _ in pairs)
-    return [len(pairs), counted if steps is None else steps, *(s for s, _ in pairs), *(a for _, a in pairs)]
-
-
-def state(objects, facts):
-    return [objects, len(facts), *(left for left, _ in facts), *(right for _, right in facts)]
-
-
-def member(a, o):
-    return (a * 512 + o, 0)
-
-
-def pair(p, x, y):
-    return ((24 + p) * 512 + x, y)
-
-
-def name(a, o):
-    return ((32 + a) * 512 + o, 0)
-
-
-def axiom(kind, subject, right):
-    return (kind * 256 + subject, right)
 
 
 def steps(n):
@@ -201,29 +169,11 @@ CASES = [
 ]
 
 
-def words(values):
-    return struct.pack(f"<{len(values)}H", *values)
-
-
 def made():
     cases = b"".join(words([ROLES[role], len(record), *record]) for role, record, _ in CASES)
     lines = "".join(f"{i} {role} {number}\n" for i, (role, _, number) in enumerate(CASES))
     return {CRATE / "data" / "cases.bin": cases, CRATE / "stdout": lines.encode()}
 
 
-def main():
-    if sys.argv[1:] == ["write"]:
-        for path, content in made().items():
-            path.parent.mkdir(exist_ok=True)
-            path.write_bytes(content)
-        return 0
-    if sys.argv[1:] == ["check"]:
-        stale = [p.name for p, content in made().items() if not p.exists() or p.read_bytes() != content]
-        print(f"record_edges: {len(CASES)} cases" if not stale else f"record_edges: stale: {', '.join(stale)}")
-        return 1 if stale else 0
-    print(__doc__)
-    return 2
-
-
 if __name__ == "__main__":
-    sys.exit(main())
+    sys.exit(kept("record_edges", made(), sys.argv[1:], f"{len(CASES)} cases"))

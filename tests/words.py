@@ -1,0 +1,54 @@
+"""Records of document 01 as lists of words, and files made from them that are kept in the repository."""
+import struct
+
+# Token sorts.
+CLASS, EVERYTHING, CONSTANT, BOTH, EMPTY, FORWARD, BACKWARD, REACHED, COMMON = range(1, 10)
+
+
+def schema(classes, attributes, constants, axioms=()):
+    left, right = zip(*axioms) if axioms else ((), ())
+    return [classes, attributes, constants, len(axioms), *left, *right]
+
+
+def concept(tokens, steps=None):
+    pairs = [t if isinstance(t, tuple) else (t, 0) for t in tokens]
+    counted = sum(sort in (FORWARD, BACKWARD) for sort, _ in pairs)
+    return [len(pairs), counted if steps is None else steps, *(s for s, _ in pairs), *(a for _, a in pairs)]
+
+
+def state(objects, facts):
+    return [objects, len(facts), *(left for left, _ in facts), *(right for _, right in facts)]
+
+
+def member(a, o):
+    return (a * 512 + o, 0)
+
+
+def pair(p, x, y):
+    return ((24 + p) * 512 + x, y)
+
+
+def name(a, o):
+    return ((32 + a) * 512 + o, 0)
+
+
+def axiom(kind, subject, right):
+    return (kind * 256 + subject, right)
+
+
+def words(values):
+    return struct.pack(f"<{len(values)}H", *values)
+
+
+def kept(name, made, arguments, count):
+    """Writes the files (path to content), or checks that they are as they would be written."""
+    if arguments == ["write"]:
+        for path, content in made.items():
+            path.parent.mkdir(parents=True, exist_ok=True)
+            path.write_bytes(content)
+        return 0
+    if arguments == ["check"]:
+        stale = [str(p) for p, content in made.items() if not p.exists() or p.read_bytes() != content]
+        print(f"{name}: {count}" if not stale else f"{name}: stale: {', '.join(stale)}")
+        return 1 if stale else 0
+    return 2
