@@ -1,4 +1,5 @@
--- Accepted records make a well-formed task: they name what is declared, and a concept has the steps that its record counts.
+-- Accepted records make a well-formed task within the limits: they name what is declared, and a concept has the steps that its
+-- record counts.
 use Prim.Native.Nat.{ℕ, zero, _≤_, _<_}
 use native.Mathlib.Omega.{arith}
 use mathlib.Core.Bool.{Bool, true, false, So, not, _&&_, _||_, false≢true}
@@ -10,13 +11,14 @@ use Rattle.records.specs.declared.schema.Axiom.{Axiom}
 use Rattle.records.specs.declared.schema.Axiom.the-variants.{Subclass, Typing, Necessary, Single, Relates}
 use Rattle.records.specs.declared.schema.Signature.{Signature}
 use Rattle.records.specs.Finite.{any, count}
-use Rattle.records.specs.Layout.{schemaLayout, conceptLayout, sizeAt, entries, leftAt, rightAt}
+use Rattle.records.specs.Layout.{schemaLayout, conceptLayout, sizeAt, entries, leftAt, rightAt, maxClasses, maxAttributes, maxConstants, maxAxioms, querySteps, viewSteps}
 use Rattle.records.specs.SchemaRecord.{signatureOf, axiomKind, schemaOf}
 use Rattle.records.specs.ConceptRecord.{tokenAt, pileAfter, conceptOf}
-use Rattle.records.specs.Refusal.{outside, declares, suits, isConcept, steps, faultyAxiom, faultyToken, refusal-2, refusal-4, refusal-5, refusal-6}
+use Rattle.records.specs.Refusal.{misshapen, outside, oversized, declares, suits, isConcept, steps, faultyAxiom, faultyToken, refusal-1, refusal-2, refusal-4, refusal-5, refusal-6, AcceptedSchema, AcceptedConcept}
+use Rattle.records.proofs.AcceptedLaws.{passes-1, passes-2, passes-4, passes-5, passes-6}
 use Rattle.chase.specs.Steps.{conceptSteps}
-use Rattle.chase.specs.Declared.{DeclaredAxiom}
-use Rattle.chase.specs.Task.{WellFormed, taskOf}
+use Rattle.chase.specs.Declared.{DeclaredAxiom, Declared}
+use Rattle.chase.specs.Task.{Task, WellFormed, taskOf}
 use Rattle.chase.specs.Tokens.{startOf, HasConcept, stepNumber}
 use Rattle.chase.proofs.TestLaws.{and-parts, or-false}
 use Rattle.chase.proofs.CountLaws.{any-of}
@@ -63,10 +65,19 @@ module _ (w : List ℕ) (pile : refusal-5 w ≡ false) where
   accepted-limit limit q =
       omega (arith, accepted-steps, ltb-false limit (steps w) (or-false (not (eqb (steps w) (sizeAt w 1))) (ltb limit (steps w)) q .1))
 
+pub accepted-declared : (s : Signature) (w : List ℕ) → refusal-4 s w ≡ false → refusal-5 w ≡ false → Declared s (conceptOf w)
+unfolding refusal-4 faultyToken conceptOf
+accepted-declared s w b c =
+    declared-concept w s (entries conceptLayout w)
+    (λ i h.
+    none-fails (λ i. outside 1 9 (leftAt conceptLayout w i)) (λ i. suits s (tokenAt w i) (rightAt conceptLayout w i))
+    (entries conceptLayout w) i b h)
+    (accepted-concept w c .0)
+
 pub accepted-formed : (schema query view : List ℕ) → refusal-2 schema ≡ false → refusal-4 (signatureOf schema) query ≡ false
     → refusal-5 query ≡ false
     → WellFormed (taskOf schema query view)
-unfolding taskOf schemaOf refusal-2 refusal-4 faultyAxiom faultyToken conceptOf
+unfolding taskOf schemaOf refusal-2 faultyAxiom
 accepted-formed schema query view a b c =
     record {
       axioms = λ i h.
@@ -74,11 +85,47 @@ accepted-formed schema query view a b c =
           (none-fails (λ i. outside 1 5 (axiomKind (leftAt schemaLayout schema i)))
           (λ i. declares (signatureOf schema) (schemaOf schema .axiomAt i))
           (entries schemaLayout schema) i a h);
-      query =
-          declared-concept query (signatureOf schema) (entries conceptLayout query)
-          (λ i h.
-          none-fails (λ i. outside 1 9 (leftAt conceptLayout query i))
-          (λ i. suits (signatureOf schema) (tokenAt query i) (rightAt conceptLayout query i))
-          (entries conceptLayout query) i b h)
-          (accepted-concept query c .0);
+      query = accepted-declared (signatureOf schema) query b c;
     }
+
+-- a well-formed task within the limits of records
+pub record Within (t : Task) : Type 0 where
+  pub formed : WellFormed t
+  pub classes : t .schema .signature .classes ≤ maxClasses
+  pub attributes : t .schema .signature .attributes ≤ maxAttributes
+  pub constants : t .schema .signature .constants ≤ maxConstants
+  pub query : conceptSteps (t .query) ≤ querySteps
+  pub view : conceptSteps (t .view) ≤ viewSteps
+
+pub accepted-signature : (w : List ℕ) → refusal-1 w ≡ false
+    → (signatureOf w .classes ≤ maxClasses) × (signatureOf w .attributes ≤ maxAttributes) × (signatureOf w .constants ≤ maxConstants)
+unfolding refusal-1
+accepted-signature w q =
+    let s = signatureOf w in
+    let (sizes, _) = or-false (oversized s (entries schemaLayout w)) (misshapen schemaLayout w) q in
+    let (names, _) = or-false _ (ltb maxAxioms (entries schemaLayout w)) sizes in
+    let (k, c) = or-false _ (ltb maxConstants (s .constants)) names in
+    let (a, b) = or-false (ltb maxClasses (s .classes)) (ltb maxAttributes (s .attributes)) k in
+    (ltb-false maxClasses (s .classes) a, ltb-false maxAttributes (s .attributes) b, ltb-false maxConstants (s .constants) c)
+
+module _ (schema query view : List ℕ) (legal : AcceptedSchema schema) (asked : AcceptedConcept querySteps (signatureOf schema) query)
+    (stored : AcceptedConcept viewSteps (signatureOf schema) view) where
+  pub accepted-within : Within (taskOf schema query view)
+  unfolding taskOf schemaOf
+  accepted-within =
+      let s = signatureOf schema in
+      let sizes = accepted-signature schema (passes-1 schema legal) in
+      record {
+        formed = accepted-formed schema query view (passes-2 schema legal) (passes-4 querySteps s query asked)
+            (passes-5 querySteps s query asked);
+        classes = sizes .0;
+        attributes = sizes .1;
+        constants = sizes .2;
+        query = accepted-limit query (passes-5 querySteps s query asked) querySteps (passes-6 querySteps s query asked);
+        view = accepted-limit view (passes-5 viewSteps s view stored) viewSteps (passes-6 viewSteps s view stored);
+      }
+
+  pub accepted-view : Declared (signatureOf schema) (conceptOf view)
+  accepted-view =
+      accepted-declared (signatureOf schema) view (passes-4 viewSteps (signatureOf schema) view stored)
+      (passes-5 viewSteps (signatureOf schema) view stored)

@@ -1,7 +1,7 @@
 -- What holds of each entry of a list, and what is an entry.
 use mathlib.Core.List.{List, [], _∷_, _++_, map}
-use mathlib.Core.Logic.{_⊎_, inl, inr}
-use mathlib.Core.Path.{_≡_, subst}
+use mathlib.Core.Logic.{_⊎_, inl, inr, ⊎-elim}
+use mathlib.Core.Path.{_≡_, refl, ap, subst}
 
 module _ {A : Type 0} where
   abbrev pub All : (A → Type 0) → List A → Type 0
@@ -33,6 +33,25 @@ module _ {A : Type 0} where
   all-at X a (x ∷ xs) h (inl e) = subst X e (h .0)
   all-at X a (x ∷ xs) h (inr m) = all-at X a xs (h .1) m
 
+  pub all-of : (X : A → Type 0) (xs : List A) → ((a : A) → Mem a xs → X a) → All X xs
+  all-of X [] h = tt
+  all-of X (x ∷ xs) h = (h x (inl refl), all-of X xs (λ a m. h a (inr m)))
+
+  -- entries of a list in two parts
+  pub mem-left : (a : A) (xs ys : List A) → Mem a xs → Mem a (xs ++ ys)
+  mem-left a [] ys m = absurd m
+  mem-left a (x ∷ xs) ys (inl e) = inl e
+  mem-left a (x ∷ xs) ys (inr m) = inr (mem-left a xs ys m)
+
+  pub mem-right : (a : A) (xs ys : List A) → Mem a ys → Mem a (xs ++ ys)
+  mem-right a [] ys m = m
+  mem-right a (x ∷ xs) ys m = inr (mem-right a xs ys m)
+
+  pub mem-split : (a : A) (xs ys : List A) → Mem a (xs ++ ys) → Mem a xs ⊎ Mem a ys
+  mem-split a [] ys m = inr m
+  mem-split a (x ∷ xs) ys (inl e) = inl (inl e)
+  mem-split a (x ∷ xs) ys (inr m) = ⊎-elim (λ k. inl (inr k)) inr (mem-split a xs ys m)
+
 pub all-mapped : {A B : Type 0} (X : B → Type 0) (f : A → B) (xs : List A) → All (λ a. X (f a)) xs → All X (map f xs)
 all-mapped X f [] h = tt
 all-mapped X f (x ∷ xs) h = (h .0, all-mapped X f xs (h .1))
@@ -40,3 +59,14 @@ all-mapped X f (x ∷ xs) h = (h .0, all-mapped X f xs (h .1))
 pub all-unmapped : {A B : Type 0} (X : B → Type 0) (f : A → B) (xs : List A) → All X (map f xs) → All (λ a. X (f a)) xs
 all-unmapped X f [] h = tt
 all-unmapped X f (x ∷ xs) h = (h .0, all-unmapped X f xs (h .1))
+
+-- entries of a mapped list
+pub mem-mapped : {A B : Type 0} (f : A → B) (a : A) (xs : List A) → Mem a xs → Mem (f a) (map f xs)
+mem-mapped f a [] m = absurd m
+mem-mapped f a (x ∷ xs) (inl e) = inl (ap f e)
+mem-mapped f a (x ∷ xs) (inr m) = inr (mem-mapped f a xs m)
+
+pub mem-unmapped : {A B : Type 0} (f : A → B) (b : B) (xs : List A) → Mem b (map f xs) → (a : A) × Mem a xs × (f a ≡ b)
+mem-unmapped f b [] m = absurd m
+mem-unmapped f b (x ∷ xs) (inl e) = (x, inl refl, e)
+mem-unmapped f b (x ∷ xs) (inr m) = let k = mem-unmapped f b xs m in (k .0, inr (k .1), k .2)

@@ -12,7 +12,7 @@ use lib.ListN.{List·getD-eq-default}
 use borrow.Author.Tests.{eqb-true, eq-eqb, lt-ltb, ltb-true}
 use Rattle.records.specs.Finite.{count}
 use Rattle.records.specs.State.{State, Related}
-use Rattle.records.specs.Schema.{Schema}
+use Rattle.records.specs.Schema.{Schema, Legal}
 use Rattle.records.specs.Semantics.{In}
 use Rattle.records.specs.Subsumption.{Counterexample, Held}
 use Rattle.chase.specs.Steps.{conceptSteps}
@@ -55,7 +55,7 @@ module _ (t : Task) (formed : WellFormed t) (G : Ground) (node : ℕ → ℕ) (T
       cond-elim (λ v. d ≡ v → (a < S .signature .constants) × (d ≡ G .constants a)) (ltb a (S .signature .constants))
       (λ b q. (ltb-true a (S .signature .constants) b, q)) (λ _ q. absurd (omega (arith, room S G T)))
 
-  names-of : (a : ℕ) → a < S .signature .constants → F .names a ≡ G .constants a
+  pub names-of : (a : ℕ) → a < S .signature .constants → F .names a ≡ G .constants a
   names-of a h = ap (λ (b : Bool). cond b (G .constants a) (objects S G T)) (lt-ltb a (S .signature .constants) h)
 
   -- a made object, as the extension asks for it
@@ -233,9 +233,12 @@ module _ (t : Task) (formed : WellFormed t) where
       go true c = clash-held c
       go false n = held t _ _ _ _ _ _ (finished n) formed x
 
+  pub candidate-legal : clash t ≡ false → Legal (t .schema) (candidate t)
+  candidate-legal n = opened t _ _ _ _ _ _ (finished n) .0
+
   pub says-open : clash t ≡ false → (In (candidate t) (t .view) (first t) → ⊥)
       → Counterexample (t .schema) (t .query) (t .view) (candidate t) (first t)
-  says-open n x = let o = opened t _ _ _ _ _ _ (finished n) in record { legal = o .0; selected = o .1; outside = x }
+  says-open n x = record { legal = candidate-legal n; selected = opened t _ _ _ _ _ _ (finished n) .1; outside = x }
 
   pub is-small : conceptSteps (t .query) ≤ 16 → conceptSteps (t .view) ≤ 6 → t .schema .signature .constants ≤ 4 → candidate t .size ≤ 463
   unfolding ground groundOf forest objects

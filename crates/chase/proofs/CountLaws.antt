@@ -4,13 +4,15 @@ use native.Mathlib.Omega.{arith}
 use native.Mathlib.Decide.{decLt}
 use mathlib.Core.Bool.{Bool, false, So, cond, false≢true}
 use mathlib.Core.Logic.{⊎-elim}
-use mathlib.Core.Path.{_≡_, refl, ap, _∙_}
+use mathlib.Core.Path.{_≡_, refl, ap, subst, _∙_}
 use mathlib.Core.List.{List, [], _∷_, _++_}
 use lib.Dec.{eqb}
 use lib.ListN.{length, getD, length-append, List·getD-append}
 use lib.Seq.{getD-at}
 use borrow.Author.Tests.{eqb-true, eqb-false}
 use Rattle.records.specs.Finite.{any, count}
+use Rattle.records.proofs.BoolLaws.{false-of}
+use Rattle.records.proofs.FiniteLaws.{none-count}
 use Rattle.chase.specs.Loops.{upto}
 use Rattle.chase.specs.Ground.{listing}
 use Rattle.chase.proofs.TestLaws.{cond-elim, cond-elim₂, or-left, or-right, or-cases}
@@ -40,6 +42,20 @@ module _ (test : ℕ → Bool) where
   pub count-same : (n : ℕ) → test n ≡ false → count (suc n) test ≡ count n test
   unfolding count
   count-same n h = ap (λ (b : Bool). cond b (suc (count n test)) (count n test)) h
+
+  -- where just i passes
+  pub count-once : (n i : ℕ) → i < n → So (test i) → ((j : ℕ) → j < n → So (test j) → j ≡ i) → count n test ≡ 1
+  count-once zero i h p only = absurd (omega arith)
+  count-once (suc n) i h p only =
+      elim (decLt i n) [
+        | yes k ↦
+            count-same n (false-of (test n) (λ q. omega (arith, only n (omega arith) q)))
+            ∙ count-once n i k p (λ j l q. only j (omega arith) q)
+        | no k ↦
+            let e : i ≡ n = omega arith in
+            count-next n (subst (λ (j : ℕ). So (test j)) e p)
+            ∙ ap suc (none-count test n (λ j l. false-of (test j) (λ q. omega (arith, only j (omega arith) q))))
+      ]
 
   -- the number that passes with d before it
   pub pick : ℕ → ℕ → ℕ

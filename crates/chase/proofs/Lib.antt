@@ -6,6 +6,7 @@ pub mod Update
 pub mod All
 pub mod LoopLaws
 pub mod ListLaws
+pub mod Ascending
 pub mod CountLaws
 -- The theory: what a finished chase decides.
 pub mod Reflection
@@ -37,7 +38,11 @@ pub mod AcceptanceLaws
 pub mod ArrayLaws
 pub mod TargetLaws
 pub mod PairLaws
+pub mod GatherLaws
 pub mod Alike
+pub mod RecordLaws
+pub mod FactList
+pub mod WrittenLaws
 pub mod Judged
 -- Worked examples.
 pub mod Examples

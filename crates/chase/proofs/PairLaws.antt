@@ -25,7 +25,7 @@ use Rattle.chase.proofs.TestLaws.{cond-elim, cond-elim₂}
 use Rattle.chase.proofs.CountLaws.{listing-length}
 use Rattle.chase.proofs.ForestLaws.{kid-lacks}
 
-sum-le : (n : ℕ) (f g : ℕ → ℕ) → ((i : ℕ) → f i ≤ g i) → sum n f ≤ sum n g
+pub sum-le : (n : ℕ) (f g : ℕ → ℕ) → ((i : ℕ) → f i ≤ g i) → sum n f ≤ sum n g
 sum-le zero f g h = omega arith
 sum-le (suc n) f g h = omega (arith, sum-le n f g h, h n)
 
@@ -33,7 +33,7 @@ sum-add : (n : ℕ) (f g : ℕ → ℕ) → sum n (λ i. f i + g i) ≡ sum n f 
 sum-add zero f g = refl
 sum-add (suc n) f g = omega (arith, sum-add n f g)
 
-sum-same : (n c : ℕ) → sum n (λ i. c) ≡ n * c
+pub sum-same : (n c : ℕ) → sum n (λ i. c) ≡ n * c
 sum-same zero c = omega arith
 sum-same (suc n) c = omega (arith, sum-same n c, suc-mul n c)
 

@@ -18,30 +18,16 @@ use Rattle.chase.specs.Forest.{Forest, bare, size, kid, push, lacks}
 use Rattle.chase.specs.Candidate.{links, chased, candidateOf, forest, candidate}
 use Rattle.chase.specs.Targets.{targets}
 use Rattle.chase.proofs.TestLaws.{or-left, or-right, cond-elim}
-use Rattle.chase.proofs.All.{All, Mem, all-append, all-map}
+use Rattle.chase.proofs.All.{All, Mem, all-append, all-map, mem-left, mem-right, mem-split}
+use Rattle.chase.proofs.Ascending.{Ascends, ascends-append}
 use Rattle.chase.proofs.Numbers.{up-to}
 use Rattle.chase.proofs.ClosingLaws.{pair-cases, pair-kept, pair-closing}
 use Rattle.chase.proofs.GroundLaws.{Grounded, nodeOf}
 use Rattle.chase.proofs.ForestLaws.{Grown, ground-size, kid-inside}
 use Rattle.chase.proofs.WalkLaws.{push-all}
-use Rattle.chase.proofs.CandidateLaws.{pair-is, link-inside}
+use Rattle.chase.proofs.CandidateLaws.{pair-is, link-inside, room, closing-room}
 use Rattle.chase.proofs.Coverage.{push-here, push-later}
 use Rattle.chase.proofs.Answers.{ground-is, forest-is}
-
--- entries of a list in two parts
-mem-left : {A : Type 0} (a : A) (l m : List A) → Mem a l → Mem a (l ++ m)
-mem-left a [] m h = absurd h
-mem-left a (x ∷ l) m (inl e) = inl e
-mem-left a (x ∷ l) m (inr h) = inr (mem-left a l m h)
-
-mem-right : {A : Type 0} (a : A) (l m : List A) → Mem a m → Mem a (l ++ m)
-mem-right a [] m h = h
-mem-right a (x ∷ l) m h = inr (mem-right a l m h)
-
-mem-split : {A : Type 0} (a : A) (l m : List A) → Mem a (l ++ m) → Mem a l ⊎ Mem a m
-mem-split a [] m h = inr h
-mem-split a (x ∷ l) m (inl e) = inl (inl e)
-mem-split a (x ∷ l) m (inr h) = ⊎-elim (λ k. inl (inr k)) inr (mem-split a l m h)
 
 -- the numbers that pass a test, as a list
 abbrev passing : (ℕ → Bool) → ℕ → List ℕ
@@ -67,17 +53,6 @@ passing-of test (suc n) e h p =
     (λ _. passing-of test n i k q))
     (λ q. subst (λ (b : Bool). Mem n (cond b (passing test n ++ (n ∷ [])) (passing test n))) (sym q)
     (mem-right n (passing test n) (n ∷ []) (inl refl))) e h p
-
--- strictly ascending
-abbrev pub Ascends : List ℕ → Type 0
-Ascends [] = Unit {0}
-Ascends (x ∷ l) = All (λ y. x < y) l × Ascends l
-
--- .. in two parts, with a bound between
-ascends-append : (l m : List ℕ) (b : ℕ) → Ascends l → All (λ x. x < b) l → Ascends m → All (λ y. b ≤ y) m → Ascends (l ++ m)
-ascends-append [] m b h k i j = i
-ascends-append (x ∷ l) m b h k i j =
-    (all-append (λ y. x < y) l m (h .0) (all-map (λ y z. omega (arith, k .0)) m j), ascends-append l m b (h .1) (k .1) i j)
 
 passing-below : (test : ℕ → Bool) (n : ℕ) → All (λ e. e < n) (passing test n)
 unfolding listing upto
@@ -181,3 +156,19 @@ module _ (t : Task) (formed : WellFormed t) (P d : ℕ) where
 
   pub candidate-ascends : Ascends (targets (t .schema) (ground t) (forest t) P d)
   candidate-ascends = targets-ascend t (ground t) (nodeOf t (primary t)) (forest t) (ground-is t formed) (forest-is t formed .0) P d
+
+  -- a value of an object is an object
+  pub target-inside : (e : ℕ) → d < candidate t .size → Related (candidate t) P d e → e < candidate t .size
+  target-inside e h r =
+      let S = t .schema in
+      let G = ground t in
+      let T = forest t in
+      let node = nodeOf t (primary t) in
+      let ok = ground-is t formed in
+      let valid = forest-is t formed .0 in
+      ⊎-elim
+      (λ p.
+      ⊎-elim (λ l. omega (arith, link-inside t G node ok P d e l .1, ground-size S G valid, room S G T))
+      (λ k. omega (arith, kid-inside S G valid P d e k .1, room S G T)) (pair-is S G T P d e p))
+      (λ l. omega (arith, l .1, closing-room t formed G node T ok valid P d h (l .0)))
+      (pair-cases (chased S G T) (lacks S G T) (size G T) P d e r)

@@ -1,0 +1,224 @@
+-- A list that has just the facts of a state, in ascending order (Lists), makes an accepted record (list-accepted), and that of
+-- a state which is alike (list-alike), if the state and the list are within the limits of records.
+use Prim.Native.Nat.{ℕ, suc, _+_, _-_, _*_, _≤_, _<_}
+use native.Mathlib.Omega.{arith}
+use native.Mathlib.Decide.{decLt}
+use mathlib.Core.Bool.{false, So, _&&_, _||_}
+use mathlib.Core.List.{List}
+use mathlib.Core.Path.{_≡_, sym, ap, subst, subst₂, _∙_}
+use lib.Dec.{eqb, ltb}
+use lib.ListN.{length, getD}
+use borrow.Author.Tests.{eq-eqb, eqb-true, ne-eqb, lt-ltb, le-ltb, le-leb, lt-leb}
+use Rattle.records.specs.declared.schema.Signature.{Signature}
+use Rattle.records.specs.Finite.{count}
+use Rattle.records.specs.Layout.{stateLayout, entries, lengthFor, maxClasses, maxAttributes, maxConstants, maxObjects, maxFacts, objectPart, attributeKinds, constantKinds, factKinds}
+use Rattle.records.specs.State.{State, Member, Related, Names}
+use Rattle.records.specs.StateRecord.{objects, kindAt, objectAt, stateOf}
+use Rattle.records.specs.Refusal.{misshapen, declaresKind, suitsKind, faultyFact, ascends, descends, namesAt, shares, misnames, refusal-7, refusal-8, refusal-9, refusal-10, AcceptedState}
+use Rattle.records.proofs.BoolLaws.{and-both, or-left, or-right}
+use Rattle.records.proofs.FiniteLaws.{none-any}
+use Rattle.records.proofs.RefusalLaws.{state-accepted}
+use Rattle.records.proofs.StateScanLaws.{name-is}
+use Rattle.chase.specs.Written.{wordPart, fact, leftWord, rightWord, nameFact, stateRecord}
+use Rattle.chase.proofs.All.{Mem}
+use Rattle.chase.proofs.ListLaws.{at-mem, mem-at}
+use Rattle.chase.proofs.CountLaws.{count-once}
+use Rattle.chase.proofs.Ascending.{Ascends, ascends-at, ascends-same}
+use Rattle.chase.proofs.Alike.{Alike}
+use Rattle.chase.proofs.RecordLaws.{kindOf, objectIn, fact-parts, record-objects, record-entries, record-length, record-left, record-right, record-kind, record-object, record-says, record-says-pair}
+
+-- the facts of a state, of what is declared
+pub data FactOf (s : Signature) (I : State) : ℕ → Type 0 where
+  ofClass : (A d : ℕ) → A < s .classes → d < I .size → Member I A d → FactOf s I (fact A d 0)
+  ofPair : (P d e : ℕ) → P < s .attributes → d < I .size → e < I .size → Related I P d e
+      → FactOf s I (fact (attributeKinds + P) d e)
+  ofName : (a : ℕ) → a < s .constants → FactOf s I (nameFact a (I .names a))
+
+-- the list has just these, in order
+pub record Lists (s : Signature) (I : State) (l : List ℕ) : Type 0 where
+  pub ascends : Ascends l
+  pub sound : (f : ℕ) → Mem f l → FactOf s I f
+  pub whole : (f : ℕ) → FactOf s I f → Mem f l
+
+-- the limits of records
+pub record Limited (s : Signature) (I : State) (l : List ℕ) : Type 0 where
+  pub classes : s .classes ≤ maxClasses
+  pub attributes : s .attributes ≤ maxAttributes
+  pub constants : s .constants ≤ maxConstants
+  pub objects : I .size ≤ maxObjects
+  pub facts : length l ≤ maxFacts
+
+-- facts ascend as numbers as their words do, left before right
+word-order : (f g : ℕ) → f < g → So (ltb (leftWord f) (leftWord g) || eqb (leftWord f) (leftWord g) && ltb (rightWord f) (rightWord g))
+word-order f g h =
+    elim (decLt (leftWord f) (leftWord g)) [
+      | yes y ↦ or-left (ltb (leftWord f) (leftWord g)) _ (lt-ltb (leftWord f) (leftWord g) y)
+      | no n ↦
+          or-right (ltb (leftWord f) (leftWord g)) _
+          (and-both _ _ (eq-eqb (leftWord f) (leftWord g) (omega arith)) (lt-ltb (rightWord f) (rightWord g) (omega arith)))
+    ]
+
+-- what the check of a record asks of a fact
+record Sound (s : Signature) (n f : ℕ) : Type 0 where
+  kind : So (declaresKind s (kindOf f))
+  object : objectIn f < n
+  right : So (suitsKind n (kindOf f) (rightWord f))
+
+sound-of : (s : Signature) (n k d r : ℕ) → d < objectPart → r < wordPart → So (declaresKind s k) → d < n → So (suitsKind n k r)
+    → Sound s n (fact k d r)
+sound-of s n k d r h j kind object right =
+    let (p, q, u) = fact-parts k d r h j in
+    record {
+      kind = subst (λ (x : ℕ). So (declaresKind s x)) (sym p) kind;
+      object = omega arith;
+      right = subst₂ (λ (x y : ℕ). So (suitsKind n x y)) (sym p) (sym u) right;
+    }
+
+module _ (s : Signature) (I : State) (l : List ℕ) (limits : Limited s I l) (names : Names (s .constants) I)
+    (lists : Lists s I l) where
+  abbrev w : List ℕ
+  w = stateRecord (I .size) l
+
+  fact-sound : {f : ℕ} → FactOf s I f → Sound s (I .size) f
+  fact-sound (ofClass A d h k x) =
+      sound-of s (I .size) A d 0 (omega (arith, limits .objects)) (omega arith)
+      (rw (lt-ltb A attributeKinds (omega (arith, limits .classes))) (lt-ltb A (s .classes) h)) k
+      (rw (lt-leb attributeKinds A (omega (arith, limits .classes))))
+  fact-sound (ofPair P d e h k j x) =
+      let K = attributeKinds + P in
+      let low : attributeKinds ≤ K = omega arith in
+      let high : K < constantKinds = omega (arith, limits .attributes) in
+      sound-of s (I .size) K d e (omega (arith, limits .objects)) (omega (arith, limits .objects))
+      (rw (le-ltb K attributeKinds low, lt-ltb K constantKinds high) (lt-ltb (K - attributeKinds) (s .attributes) (omega arith))) k
+      (rw (le-leb attributeKinds K low, lt-ltb K constantKinds high) (lt-ltb e (I .size) j))
+  fact-sound (ofName a h) =
+      let K = constantKinds + a in
+      let inside = names .inside a h in
+      sound-of s (I .size) K (I .names a) 0 (omega (arith, limits .objects)) (omega arith)
+      (rw (le-ltb K attributeKinds (omega arith), le-ltb K constantKinds (omega arith), lt-ltb K factKinds (omega (arith, limits .constants)))
+      (lt-ltb (K - constantKinds) (s .constants) (omega arith))) inside
+      (rw (le-leb attributeKinds K (omega arith), le-ltb K constantKinds (omega arith)))
+
+  entry-sound : (i : ℕ) → i < length l → Sound s (I .size) (getD l i 0)
+  entry-sound i h = fact-sound (lists .sound (getD l i 0) (at-mem l i h))
+
+  -- the parts of a fact tell what it says
+  class-told : {f : ℕ} (A d : ℕ) → A < s .classes → FactOf s I f → kindOf f ≡ A → objectIn f ≡ d → Member I A d
+  class-told A d h (ofClass B c g k x) p q =
+      subst₂ (Member I) (omega (arith, limits .objects)) (omega (arith, limits .objects)) x
+  class-told A d h (ofPair P c e g k j x) p q = absurd (omega (arith, limits .classes, limits .objects))
+  class-told A d h (ofName a g) p q = absurd (omega (arith, limits .classes, limits .objects, names .inside a g))
+
+  pair-told : {f : ℕ} (P d e : ℕ) → P < s .attributes → FactOf s I f → kindOf f ≡ attributeKinds + P → objectIn f ≡ d → rightWord f ≡ e
+      → Related I P d e
+  pair-told P d e h (ofClass B c g k x) p q r = absurd (omega (arith, limits .classes, limits .objects))
+  pair-told P d e h (ofPair R c b g k j x) p q r =
+      let parts = fact-parts (attributeKinds + R) c b (omega (arith, limits .objects)) (omega (arith, limits .objects)) in
+      let o : b ≡ e = omega (arith, parts .2) in
+      subst (Related I P d) o (subst₂ (λ (Q i : ℕ). Related I Q i b) (omega (arith, parts .0)) (omega (arith, parts .1)) x)
+  pair-told P d e h (ofName a g) p q r = absurd (omega (arith, limits .attributes, limits .objects, names .inside a g))
+
+  name-told : {f : ℕ} (a : ℕ) → FactOf s I f → kindOf f ≡ constantKinds + a → f ≡ nameFact a (I .names a)
+  name-told a (ofClass B c g k x) p = absurd (omega (arith, limits .classes, limits .objects))
+  name-told a (ofPair R c b g k j x) p = absurd (omega (arith, limits .attributes, limits .objects))
+  name-told a (ofName b g) p =
+      let e : b ≡ a = omega (arith, limits .objects, names .inside b g) in ap (λ (c : ℕ). nameFact c (I .names c)) e
+
+  -- the place of the fact that names constant a
+  name-place : (a : ℕ) → a < s .constants → (i : ℕ) × (i < length l) × (getD l i 0 ≡ nameFact a (I .names a))
+  name-place a h = mem-at (nameFact a (I .names a)) l (lists .whole (nameFact a (I .names a)) (ofName a h))
+
+  -- the record's reading of such a fact
+  names-at : (a i : ℕ) → a < s .constants → i < length l → getD l i 0 ≡ nameFact a (I .names a)
+      → So (namesAt w a i) × (objectAt w i ≡ I .names a)
+  names-at a i h b q =
+      let inside = names .inside a h in (
+        eq-eqb (kindAt w i) (constantKinds + a) (omega (arith, record-kind (I .size) l i b, limits .objects)),
+        omega (arith, record-object (I .size) l i b, limits .objects),
+      )
+
+  names-once : (a : ℕ) → a < s .constants → count (entries stateLayout w) (namesAt w a) ≡ 1
+  names-once a h =
+      let (i, b, q) = name-place a h in
+      count-once (namesAt w a) (entries stateLayout w) i (omega (arith, record-entries (I .size) l)) (names-at a i h b q .0)
+      (λ j k t.
+      let c : j < length l = omega (arith, record-entries (I .size) l) in
+      ascends-same l (lists .ascends) j i c b
+      (name-told a (lists .sound (getD l j 0) (at-mem l j c))
+      (sym (record-kind (I .size) l j c) ∙ eqb-true (kindAt w j) (constantKinds + a) t) ∙ sym q))
+
+  list-names : (a : ℕ) → a < s .constants → stateOf w .names a ≡ I .names a
+  list-names a h =
+      let (i, b, q) = name-place a h in
+      let (p, o) = names-at a i h b q in
+      name-is w a (names-once a h) i (omega (arith, record-entries (I .size) l)) p
+      (omega (arith, record-objects (I .size) l, names .inside a h)) ∙ o
+
+  -- None of the refusals applies.
+
+  shape : refusal-7 w ≡ false
+  unfolding refusal-7 misshapen lengthFor stateLayout
+  shape =
+      rw (
+        le-ltb maxObjects (objects w) (omega (arith, record-objects (I .size) l, limits .objects)),
+        le-ltb maxFacts (entries stateLayout w) (omega (arith, record-entries (I .size) l, limits .facts)),
+        le-ltb (length w) 2 (omega (arith, record-length (I .size) l)),
+        eq-eqb (length w) (2 + 2 * entries stateLayout w) (omega (arith, record-length (I .size) l, record-entries (I .size) l)),
+      )
+
+  faultless : refusal-8 s w ≡ false
+  unfolding refusal-8 faultyFact
+  faultless = none-any (faultyFact s w) (entries stateLayout w) λ i h.
+      let b : i < length l = omega (arith, record-entries (I .size) l) in
+      let ok = entry-sound i b in
+      rw (
+        record-objects (I .size) l,
+        record-kind (I .size) l i b,
+        record-object (I .size) l i b,
+        record-right (I .size) l i,
+        ok .kind,
+        lt-leb (I .size) (objectIn (getD l i 0)) (ok .object),
+        ok .right,
+      )
+
+  order : refusal-9 w ≡ false
+  unfolding refusal-9 ascends
+  order = none-any (descends w) (entries stateLayout w - 1) λ i h.
+      let b : suc i < length l = omega (arith, record-entries (I .size) l) in
+      rw (
+        record-left (I .size) l i (omega arith),
+        record-left (I .size) l (suc i) b,
+        record-right (I .size) l i,
+        record-right (I .size) l (suc i),
+        word-order (getD l i 0) (getD l (suc i) 0) (ascends-at l (lists .ascends) i (suc i) (omega arith) b),
+      )
+
+  constants : refusal-10 s w ≡ false
+  unfolding refusal-10
+  constants = none-any (misnames w) (s .constants) λ a h.
+      rw (eq-eqb (count (entries stateLayout w) (namesAt w a)) 1 (names-once a h))
+      (none-any (shares w a) a λ b k.
+      ne-eqb (stateOf w .names b) (stateOf w .names a)
+      (λ q. omega (arith, names .apart b a (omega arith) h (sym (list-names b (omega arith)) ∙ q ∙ list-names a h))))
+
+  pub list-accepted : AcceptedState s w
+  list-accepted = sym (state-accepted s w shape faultless order constants)
+
+  pub list-alike : Alike s I (stateOf w)
+  unfolding stateOf
+  list-alike =
+      record {
+        size = sym (record-objects (I .size) l);
+        members = λ A d h k. (
+          λ x. record-says (I .size) l A d .1
+              (fact A d 0, lists .whole (fact A d 0) (ofClass A d h k x), omega (arith, limits .objects)),
+          λ y. let (f, m, q) = record-says (I .size) l A d .0 y in class-told A d h (lists .sound f m) (q .0) (q .1),
+        );
+        pairs = λ P d e h k j.
+            let K = attributeKinds + P in (
+              λ x. record-says-pair (I .size) l K d e .1
+                  (fact K d e, lists .whole (fact K d e) (ofPair P d e h k j x), omega (arith, limits .objects)),
+              λ y. let (f, m, q) = record-says-pair (I .size) l K d e .0 y in pair-told P d e h (lists .sound f m) (q .0) (q .1) (q .2),
+            );
+        names = λ a h. sym (list-names a h);
+      }

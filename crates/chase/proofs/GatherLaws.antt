@@ -1,0 +1,52 @@
+-- Lists in a row: what their entries are, that they ascend where each list has bounds of its own, and how many entries there are.
+use Prim.Native.Nat.{ℕ, zero, suc, _≤_, _<_}
+use native.Mathlib.Omega.{arith}
+use mathlib.Core.List.{List}
+use mathlib.Core.Logic.{⊎-elim}
+use mathlib.Core.Path.{_≡_, refl}
+use lib.ListN.{length, length-append}
+use Rattle.chase.specs.Targets.{sum}
+use Rattle.chase.specs.Written.{gather}
+use Rattle.chase.proofs.All.{Mem, mem-left, mem-right, mem-split}
+use Rattle.chase.proofs.Numbers.{up-to}
+use Rattle.chase.proofs.Ascending.{Between, between-none, between-append}
+use Rattle.chase.proofs.PairLaws.{sum-le}
+
+module _ (f : ℕ → List ℕ) where
+  pub gather-of : (n i x : ℕ) → i < n → Mem x (f i) → Mem x (gather n f)
+  unfolding gather
+  gather-of zero i x h m = absurd (omega arith)
+  gather-of (suc n) i x h m =
+      up-to (λ j. Mem x (f j) → Mem x (gather (suc n) f)) n (λ j k q. mem-left x (gather n f) (f n) (gather-of n j x k q))
+      (mem-right x (gather n f) (f n)) i h m
+
+  pub gather-is : (n x : ℕ) → Mem x (gather n f) → (i : ℕ) × (i < n) × Mem x (f i)
+  unfolding gather
+  gather-is zero x m = absurd m
+  gather-is (suc n) x m =
+      ⊎-elim (λ k. let r = gather-is n x k in (r .0, omega (arith, r .1), r .2)) (λ k. (n, omega arith, k))
+      (mem-split x (gather n f) (f n) m)
+
+  -- list i has its entries from bound i on and below the next
+  pub gather-between : (n : ℕ) (bound : ℕ → ℕ) → ((i : ℕ) → i < n → Between (bound i) (bound (suc i)) (f i))
+      → Between (bound 0) (bound n) (gather n f)
+  unfolding gather
+  gather-between zero bound h = between-none (bound 0) (bound 0) (omega arith)
+  gather-between (suc n) bound h =
+      between-append (gather n f) (f n) (gather-between n bound (λ i k. h i (omega arith))) (h n (omega arith))
+
+  pub gather-length : (n : ℕ) → length (gather n f) ≡ sum n (λ i. length (f i))
+  unfolding gather
+  gather-length zero = refl
+  gather-length (suc n) = omega (arith, length-append (gather n f) (f n), gather-length n)
+
+-- rows of rows
+pub gather-rows : (m n : ℕ) (f : ℕ → ℕ → List ℕ) (g : ℕ → ℕ → ℕ) → ((i j : ℕ) → length (f i j) ≤ g i j)
+    → length (gather m (λ i. gather n (f i))) ≤ sum m (λ i. sum n (g i))
+gather-rows m n f g h =
+    omega (
+      arith,
+      gather-length (λ i. gather n (f i)) m,
+      sum-le m (λ i. length (gather n (f i))) (λ i. sum n (g i))
+          (λ i. omega (arith, gather-length (f i) n, sum-le n (λ j. length (f i j)) (g i) (h i))),
+    )

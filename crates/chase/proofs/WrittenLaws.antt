@@ -1,0 +1,242 @@
+-- The candidate's record. Its facts are just those of the candidate (facts-list), they are few (facts-few), and so the record
+-- is accepted (written-accepted) and stands for a state like the candidate (written-alike).
+use Prim.Native.Nat.{ℕ, suc, _+_, _≤_, _<_}
+use native.Mathlib.Omega.{arith}
+use native.Mathlib.Nat.{mul-le-mul}
+use mathlib.Core.Bool.{Bool, false, cond}
+use mathlib.Core.List.{List, [], _∷_, _++_, map}
+use mathlib.Core.Logic.{inl, ⊎-elim}
+use mathlib.Core.Path.{_≡_, refl, sym, ap, subst, _∙_}
+use lib.ListN.{length, length-append, length-map}
+use Rattle.records.specs.Layout.{objectPart, lengthFor, stateLayout, maxFacts, maxStateWords, attributeKinds, constantKinds, factKinds}
+use Rattle.records.specs.Schema.{Schema}
+use Rattle.records.specs.StateRecord.{stateOf}
+use Rattle.records.specs.Refusal.{AcceptedState}
+use Rattle.chase.specs.ClassSet.{has}
+use Rattle.chase.specs.Task.{Task}
+use Rattle.chase.specs.Primary.{primary, clash}
+use Rattle.chase.specs.Ground.{Ground, ground}
+use Rattle.chase.specs.Forest.{Forest, classesOf}
+use Rattle.chase.specs.Candidate.{objects, forest, candidate}
+use Rattle.chase.specs.Targets.{sum, targets, pairs}
+use Rattle.chase.specs.Written.{wordPart, fact, nameFact, gather, classFacts, pairFacts, objectFacts, facts, written}
+use Rattle.chase.proofs.TestLaws.{cond-elim}
+use Rattle.chase.proofs.All.{All, Mem, all-map, all-mapped, all-of, mem-left, mem-right, mem-split, mem-mapped, mem-unmapped}
+use Rattle.chase.proofs.Ascending.{Ascends, Between, between-none, between-one, between-wider, between-append}
+use Rattle.chase.proofs.GroundLaws.{nodeOf}
+use Rattle.chase.proofs.ForestLaws.{ground-size}
+use Rattle.chase.proofs.CandidateLaws.{room}
+use Rattle.chase.proofs.Answers.{names-of, ground-is, forest-is, candidate-legal, is-small}
+use Rattle.chase.proofs.AcceptanceLaws.{Within}
+use Rattle.chase.proofs.TargetLaws.{candidate-targets, candidate-ascends, target-inside}
+use Rattle.chase.proofs.PairLaws.{sum-le, sum-same, candidate-pairs}
+use Rattle.chase.proofs.GatherLaws.{gather-of, gather-is, gather-between, gather-length, gather-rows}
+use Rattle.chase.proofs.Alike.{Alike}
+use Rattle.chase.proofs.RecordLaws.{record-objects, record-length}
+use Rattle.chase.proofs.FactList.{FactOf, ofClass, ofPair, ofName, Lists, Limited, list-accepted, list-alike}
+
+-- Facts of one kind and object lie between its first fact and the next object's, and so in a row over objects and kinds.
+
+fact-between : (k d : ℕ) (l : List ℕ) → Ascends l → All (λ e. e < wordPart) l → Between (fact k d 0) (fact k (suc d) 0) (map (fact k d) l)
+fact-between k d l a b =
+    record {
+      order = omega arith;
+      ascends = up l a;
+      lower = all-mapped (λ f. fact k d 0 ≤ f) (fact k d) l (all-map (λ e h. omega arith) l b);
+      upper = all-mapped (λ f. f < fact k (suc d) 0) (fact k d) l (all-map (λ e h. omega arith) l b);
+    }
+  where
+    up : (l : List ℕ) → Ascends l → Ascends (map (fact k d) l)
+    up [] a = tt
+    up (e ∷ l) a = (all-mapped (λ f. fact k d e < f) (fact k d) l (all-map (λ y h. omega arith) l (a .0)), up l (a .1))
+
+rows-between : (k m n : ℕ) (f : ℕ → ℕ → List ℕ) → n ≤ objectPart
+    → ((i d : ℕ) → i < m → d < n → Between (fact (k + i) d 0) (fact (k + i) (suc d) 0) (f i d))
+    → Between (fact k 0 0) (fact (k + m) 0 0) (gather m (λ i. gather n (f i)))
+rows-between k m n f small h =
+    between-wider (gather m (λ i. gather n (f i))) (omega arith) (omega arith)
+    (gather-between (λ i. gather n (f i)) m (λ i. fact (k + i) 0 0)
+    (λ i j. between-wider (gather n (f i)) (omega arith) (omega arith) (gather-between (f i) n (λ d. fact (k + i) d 0) (λ d. h i d j))))
+
+module _ (t : Task) (ok : Within t) where
+  abbrev S : Schema
+  S = t .schema
+
+  abbrev G : Ground
+  G = ground t
+
+  abbrev T : Forest
+  T = forest t
+
+  abbrev n : ℕ
+  n = objects (t .schema) (ground t) (forest t)
+
+  objects-few : n ≤ 463
+  objects-few = is-small t (ok .formed) (ok .query) (ok .view) (ok .constants)
+
+  name-of : (a : ℕ) → a < S .signature .constants → candidate t .names a ≡ G .constants a
+  name-of = names-of t (ok .formed) G (nodeOf t (primary t)) T (ground-is t (ok .formed)) (forest-is t (ok .formed) .0)
+
+  name-inside : (a : ℕ) → a < S .signature .constants → G .constants a < n
+  name-inside a h =
+      omega (arith, ground-is t (ok .formed) .constants a h, ground-size S G (forest-is t (ok .formed) .0), room S G T)
+
+  -- Order.
+
+  class-between : (A d : ℕ) → Between (fact (0 + A) d 0) (fact (0 + A) (suc d) 0) (classFacts S G T A d)
+  unfolding classFacts
+  class-between A d =
+      cond-elim {A = List ℕ} (Between (fact (0 + A) d 0) (fact (0 + A) (suc d) 0)) (has (classesOf S G T d) A)
+      (λ _. between-one (fact (0 + A) d 0) (fact (0 + A) (suc d) 0) (fact A d 0) (omega arith) (omega arith))
+      (λ _. between-none (fact (0 + A) d 0) (fact (0 + A) (suc d) 0) (omega arith))
+
+  pair-between : (P d : ℕ) → d < n → Between (fact (attributeKinds + P) d 0) (fact (attributeKinds + P) (suc d) 0) (pairFacts S G T P d)
+  unfolding pairFacts
+  pair-between P d h =
+      fact-between (attributeKinds + P) d (targets S G T P d) (candidate-ascends t (ok .formed) P d)
+      (all-of (λ e. e < wordPart) (targets S G T P d)
+      (λ e m. omega (arith, target-inside t (ok .formed) P d e h (candidate-targets t (ok .formed) P d e .1 m), objects-few)))
+
+  classPart : List ℕ
+  classPart = gather (S .signature .classes) (λ A. gather n (classFacts S G T A))
+
+  pairPart : List ℕ
+  pairPart = gather (S .signature .attributes) (λ P. gather n (pairFacts S G T P))
+
+  namePart : List ℕ
+  namePart = gather (S .signature .constants) (λ a. nameFact a (G .constants a) ∷ [])
+
+  class-part : Between 0 (fact attributeKinds 0 0) classPart
+  unfolding classPart
+  class-part =
+      between-wider classPart (omega arith) (omega (arith, ok .classes))
+      (rows-between 0 (S .signature .classes) n (classFacts S G T) (omega (arith, objects-few)) (λ A d h k. class-between A d))
+
+  pair-part : Between (fact attributeKinds 0 0) (fact constantKinds 0 0) pairPart
+  unfolding pairPart
+  pair-part =
+      between-wider pairPart (omega arith) (omega (arith, ok .attributes))
+      (rows-between attributeKinds (S .signature .attributes) n (pairFacts S G T) (omega (arith, objects-few))
+      (λ P d h k. pair-between P d k))
+
+  name-part : Between (fact constantKinds 0 0) (fact factKinds 0 0) namePart
+  unfolding namePart
+  name-part =
+      between-wider namePart (omega arith) (omega (arith, ok .constants))
+      (gather-between (λ a. nameFact a (G .constants a) ∷ []) (S .signature .constants) (λ a. fact (constantKinds + a) 0 0)
+      (λ a h. between-one (fact (constantKinds + a) 0 0) (fact (constantKinds + suc a) 0 0) (nameFact a (G .constants a)) (omega arith)
+      (omega (arith, name-inside a h, objects-few))))
+
+  pub facts-between : Between 0 (fact factKinds 0 0) (facts S G T)
+  unfolding facts objectFacts classPart pairPart namePart
+  facts-between = between-append (classPart ++ pairPart) namePart (between-append classPart pairPart class-part pair-part) name-part
+
+  -- Entries.
+
+  class-sound : (f : ℕ) → Mem f classPart → FactOf (S .signature) (candidate t) f
+  unfolding classPart classFacts
+  class-sound f m =
+      let (A, h, r) = gather-is (λ A. gather n (classFacts S G T A)) (S .signature .classes) f m in
+      let (d, k, c) = gather-is (classFacts S G T A) n f r in
+      cond-elim {A = List ℕ} (λ l. Mem f l → FactOf (S .signature) (candidate t) f) (has (classesOf S G T d) A)
+      (λ x q. ⊎-elim (λ e. subst (FactOf (S .signature) (candidate t)) e (ofClass A d h k x)) (λ z. absurd z) q) (λ _ q. absurd q) c
+
+  pair-sound : (f : ℕ) → Mem f pairPart → FactOf (S .signature) (candidate t) f
+  unfolding pairPart pairFacts
+  pair-sound f m =
+      let (P, h, r) = gather-is (λ P. gather n (pairFacts S G T P)) (S .signature .attributes) f m in
+      let (d, k, c) = gather-is (pairFacts S G T P) n f r in
+      let (e, i, q) = mem-unmapped (fact (attributeKinds + P) d) f (targets S G T P d) c in
+      let x = candidate-targets t (ok .formed) P d e .1 i in
+      subst (FactOf (S .signature) (candidate t)) q (ofPair P d e h k (target-inside t (ok .formed) P d e k x) x)
+
+  name-sound : (f : ℕ) → Mem f namePart → FactOf (S .signature) (candidate t) f
+  unfolding namePart
+  name-sound f m =
+      let (a, h, r) = gather-is (λ a. nameFact a (G .constants a) ∷ []) (S .signature .constants) f m in
+      ⊎-elim (λ e. subst (FactOf (S .signature) (candidate t)) (ap (nameFact a) (name-of a h) ∙ e) (ofName a h)) (λ z. absurd z) r
+
+  facts-whole : (f : ℕ) → FactOf (S .signature) (candidate t) f → Mem f (facts S G T)
+  unfolding facts objectFacts classPart pairPart namePart classFacts pairFacts
+  facts-whole f (ofClass A d h k x) =
+      mem-left f (classPart ++ pairPart) namePart
+      (mem-left f classPart pairPart
+      (gather-of (λ A. gather n (classFacts S G T A)) (S .signature .classes) A f h
+      (gather-of (classFacts S G T A) n d f k
+      (subst (λ (b : Bool). Mem (fact A d 0) (cond b (fact A d 0 ∷ []) [])) (sym x) (inl refl)))))
+  facts-whole f (ofPair P d e h k j x) =
+      mem-left f (classPart ++ pairPart) namePart
+      (mem-right f classPart pairPart
+      (gather-of (λ P. gather n (pairFacts S G T P)) (S .signature .attributes) P f h
+      (gather-of (pairFacts S G T P) n d f k
+      (mem-mapped (fact (attributeKinds + P) d) e (targets S G T P d) (candidate-targets t (ok .formed) P d e .0 x)))))
+  facts-whole f (ofName a h) =
+      mem-right f (classPart ++ pairPart) namePart
+      (gather-of (λ a. nameFact a (G .constants a) ∷ []) (S .signature .constants) a f h (inl (ap (nameFact a) (sym (name-of a h)))))
+
+  pub facts-list : Lists (S .signature) (candidate t) (facts S G T)
+  unfolding facts objectFacts classPart pairPart namePart
+  facts-list =
+      record {
+        ascends = facts-between .ascends;
+        sound = λ f m.
+            ⊎-elim (λ k. ⊎-elim (class-sound f) (pair-sound f) (mem-split f classPart pairPart k)) (name-sound f)
+            (mem-split f (classPart ++ pairPart) namePart m);
+        whole = facts-whole;
+      }
+
+  -- Length.
+
+  pub facts-few : length (facts S G T) ≤ maxFacts
+  unfolding facts objectFacts classPart pairPart namePart classFacts pairFacts pairs
+  facts-few =
+      let c = S .signature .classes in
+      let p = S .signature .attributes in
+      omega (
+        arith,
+        length-append (classPart ++ pairPart) namePart,
+        length-append classPart pairPart,
+        gather-rows c n (classFacts S G T) (λ A d. 1)
+            (λ A d. cond-elim {A = List ℕ} (λ l. length l ≤ 1) (has (classesOf S G T d) A) (λ _. omega arith) (λ _. omega arith)),
+        sum-le c (λ A. sum n (λ d. 1)) (λ A. n) (λ A. omega (arith, sum-same n 1)),
+        sum-same c n,
+        mul-le-mul (ok .classes) objects-few,
+        gather-rows p n (pairFacts S G T) (λ P d. length (targets S G T P d))
+            (λ P d. omega (arith, length-map (targets S G T P d) (fact (attributeKinds + P) d))),
+        candidate-pairs t,
+        mul-le-mul (ok .attributes) objects-few,
+        ok .query,
+        gather-length (λ a. nameFact a (G .constants a) ∷ []) (S .signature .constants),
+        sum-same (S .signature .constants) 1,
+        ok .constants,
+      )
+
+  pub written-length : length (written t) ≤ maxStateWords
+  unfolding written maxStateWords lengthFor stateLayout
+  written-length = omega (arith, record-length n (facts S G T), facts-few)
+
+  -- The record.
+
+  limits : Limited (S .signature) (candidate t) (facts S G T)
+  limits =
+      record {
+        classes = ok .classes;
+        attributes = ok .attributes;
+        constants = ok .constants;
+        objects = omega (arith, objects-few);
+        facts = facts-few;
+      }
+
+  pub written-size : stateOf (written t) .size ≡ candidate t .size
+  unfolding stateOf written
+  written-size = record-objects n (facts S G T)
+
+  pub written-accepted : clash t ≡ false → AcceptedState (S .signature) (written t)
+  unfolding written
+  written-accepted c =
+      list-accepted (S .signature) (candidate t) (facts S G T) limits (candidate-legal t (ok .formed) c .names) facts-list
+
+  pub written-alike : clash t ≡ false → Alike (S .signature) (candidate t) (stateOf (written t))
+  unfolding written
+  written-alike c =
+      list-alike (S .signature) (candidate t) (facts S G T) limits (candidate-legal t (ok .formed) c .names) facts-list

@@ -1,0 +1,91 @@
+-- For callers: the laid objects and the renumbered edges are the ground of a task, in all that the made part and the
+-- candidate read of it.
+use Prim.Native.Nat.{ℕ, zero, suc, _^_, _≤_, _<_}
+use native.Mathlib.Omega.{arith}
+use mathlib.Core.List.{List, [], _∷_, map}
+use mathlib.Core.Path.{_≡_, refl, sym, ap, ap₂, subst, _∙_}
+use lib.ListN.{length, getD, take}
+use lib.Pow.{pow-mono}
+use lib.Seq.{getD-take, length-take-le}
+use Rattle.records.specs.Finite.{count}
+use Rattle.records.specs.Layout.{maxClasses}
+use Rattle.chase.specs.Facts.{Edge}
+use Rattle.chase.specs.Task.{Task, WellFormed, nodes, startNode, constantNode, asked, taskOf}
+use Rattle.chase.specs.Primary.{Prime, repOf, setOf, begin, settled, primary}
+use Rattle.chase.specs.Ground.{setAt, live, objectOf, listing, renumber, groundOf, ground}
+use Rattle.chase.proofs.All.{All, all-unmapped}
+use Rattle.chase.proofs.Answers.{ground-is}
+use Rattle.chase.proofs.CountLaws.{count-le}
+use Rattle.chase.proofs.ListLaws.{getD-map}
+use Rattle.primary.specs.Asked.{queryTask}
+use Rattle.primary.specs.Formed.{prime, maxNodes}
+use Rattle.primary.specs.Words.{edgeOf, EdgesIn}
+use Rattle.ground.specs.Objects.{classesIn, groundWord, groundIn, Laid}
+use Rattle.ground.specs.Numbers.{objectIn, renumberIn}
+use Rattle.ground.specs.Laying.{Grounds}
+use Rattle.ground.specs.Agrees.{Agrees}
+
+-- the class sets of words
+sets-back : (l : List ℕ) → map classesIn (map groundWord l) ≡ l
+sets-back [] = refl
+sets-back (c ∷ l) = let e : classesIn (groundWord c) ≡ c = omega arith in ap₂ (λ (x : ℕ) (m : List ℕ). x ∷ m) e (sets-back l)
+
+-- the numbers of objects do not depend on the class sets
+renumber-any : (r s : List ℕ) (l : List Edge) → map (renumberIn r) l ≡ map (renumber (prime r s)) l
+unfolding objectOf live repOf
+renumber-any r s l = refl
+
+all-getD : (X : ℕ → Type 0) (l : List ℕ) → All X l → (i : ℕ) → i < length l → X (getD l i 0)
+all-getD X [] h i k = absurd (omega arith)
+all-getD X (x ∷ l) h zero k = h .0
+all-getD X (x ∷ l) h (suc i) k = all-getD X l (h .1) i (omega arith)
+
+-- the representatives and sets are those of the task's primary part
+module _ (t : Task) (r s : List ℕ) (is : prime r s ≡ primary t) where
+  pub ground-agrees : (g : ℕ) (objects es fs : List ℕ) → length r ≡ nodes t → map edgeOf es ≡ asked t .edges
+      → Grounds (prime r s) (length r) g objects → map edgeOf fs ≡ map (renumberIn r) (map edgeOf es)
+      → Agrees (groundIn g objects fs) (ground t)
+  unfolding ground groundOf
+  ground-agrees g objects es fs size h a k =
+      record {
+        objects = a .number ∙ ap₂ (λ (n : ℕ) (x : Prime). count n (live x)) size is;
+        sets =
+            ap (map classesIn) (a .words) ∙ sets-back (listing (live (prime r s)) (setOf (prime r s)) (length r))
+            ∙ ap₂ (λ (n : ℕ) (x : Prime). listing (live x) (setOf x) n) size is;
+        edges = k ∙ renumber-any r s (map edgeOf es) ∙ ap₂ (λ (x : Prime) (l : List Edge). map (renumber x) l) is h;
+      }
+
+  -- the objects of the constants and of the start
+  pub constant-object : (a : ℕ) → objectIn r (constantNode t a) ≡ ground t .constants a
+  unfolding ground groundOf objectOf live repOf
+  constant-object a = ap (λ (x : Prime). objectOf x (constantNode t a)) is
+
+  pub start-object : objectIn r (startNode t) ≡ ground t .start
+  unfolding ground groundOf objectOf live repOf
+  start-object = ap (λ (x : Prime). objectOf x (startNode t)) is
+
+pub grounds-laid : (x : Prime) (n g : ℕ) (objects : List ℕ) → n ≤ maxNodes → Grounds x n g objects → Laid g g objects
+grounds-laid x n g objects h a =
+    record { room = a .room; ground = omega arith; fits = omega (arith, count-le (live x) n, a .number) }
+
+-- what the task's ground gives to one that agrees with it
+module _ (t : Task) (formed : WellFormed t) (g : ℕ) (objects fs : List ℕ) (same : Agrees (groundIn g objects fs) (ground t)) where
+  pub edges-inside : EdgesIn g fs
+  edges-inside i h =
+      let k = all-getD (λ w. (edgeOf w .origin < g) × (edgeOf w .target < g)) fs
+      (all-unmapped (λ e. (e .origin < g) × (e .target < g)) edgeOf fs
+      (subst (All (λ e. (e .origin < g) × (e .target < g))) (sym (same .edges))
+      (subst (λ (n : ℕ). All (λ e. (e .origin < n) × (e .target < n)) (ground t .edges)) (sym (same .objects)) (ground-is t formed .edges)))) i h in
+      record { origin = k .0; target = k .1 }
+
+  pub sets-fit : t .schema .signature .classes ≤ maxClasses → g ≤ length objects → (d : ℕ) → d < g → classesIn (getD objects d 0) < 2 ^ 32
+  sets-fit few room d h =
+      let e : setAt (ground t) d ≡ classesIn (getD objects d 0)
+      = ap (λ (l : List ℕ). getD l d 0) (sym (same .sets)) ∙ getD-map classesIn (take g objects) d (omega (arith, length-take-le g objects room))
+      ∙ ap classesIn (getD-take g objects d 0 h) in
+      omega (arith, ground-is t formed .small d (omega (arith, same .objects)), pow-mono few)
+
+-- the view has no part in it
+pub ground-view : (s q v : List ℕ) → ground (taskOf s q v) ≡ ground (queryTask s q)
+unfolding ground groundOf primary settled begin asked taskOf
+ground-view s q v = refl

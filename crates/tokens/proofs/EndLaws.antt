@@ -1,0 +1,61 @@
+-- The end of a path by its last token: a step's number, or where the empty path starts.
+use Prim.Native.Nat.{ℕ, suc, _-_, _<_}
+use native.Mathlib.Omega.{arith}
+use mathlib.Core.Bool.{So, false, true≢false, false≢true}
+use mathlib.Core.List.{List}
+use mathlib.Core.Path.{_≡_, refl, ap, subst, _∙_}
+use Rattle.records.specs.declared.concept.Token.{Token}
+use Rattle.records.specs.declared.concept.Token.the-variants.{Class, Everything, Constant, Both, Empty, Forward, Backward, Reached, Common}
+use Rattle.records.specs.Concept.{forward, backward}
+use Rattle.records.specs.ConceptRecord.{concept, path, tokenAt}
+use Rattle.records.specs.Refusal.{isStep, stepAt}
+use Rattle.chase.specs.Tokens.{conceptAt, pathAt, HasConcept, HasPath, stepNumber, endAt}
+use Rattle.chase.proofs.PileLaws.{Ends, at-suc}
+use Rattle.chase.proofs.TokenLaws.{ReadsPath, path-reads}
+use Rattle.chase.proofs.ReadingLaws.{facts-empty, facts-step}
+
+module _ (w : List ℕ) where
+  -- an item ends after a token at least
+  pub concept-some : (e : ℕ) → HasConcept w e → 0 < e
+  unfolding HasConcept Ends
+  concept-some e h = at-suc w (λ i. 0 < i) (concept (conceptAt w e)) e h (λ d k. omega arith)
+
+  pub path-some : (e : ℕ) → HasPath w e → 0 < e
+  unfolding HasPath Ends
+  path-some e h = at-suc w (λ i. 0 < i) (path (pathAt w e)) e h (λ d k. omega arith)
+
+  module _ (e n : ℕ) where
+    step-ends : (t : Token) → ReadsPath w e t → So (isStep t) → endAt w (suc e) n ≡ stepNumber w e
+    step-ends (Class A) r h = absurd r
+    step-ends Everything r h = absurd r
+    step-ends (Constant a) r h = absurd r
+    step-ends Both r h = absurd r
+    step-ends Empty r h = absurd (false≢true h)
+    step-ends (Forward P) r h = facts-step 0 w e n forward P r .1
+    step-ends (Backward P) r h = facts-step 0 w e n backward P r .1
+    step-ends Reached r h = absurd r
+    step-ends Common r h = absurd r
+
+    empty-ends : (t : Token) → ReadsPath w e t → isStep t ≡ false → endAt w (suc e) n ≡ n
+    empty-ends (Class A) r h = absurd r
+    empty-ends Everything r h = absurd r
+    empty-ends (Constant a) r h = absurd r
+    empty-ends Both r h = absurd r
+    empty-ends Empty r h = facts-empty 0 w e n r .1
+    empty-ends (Forward P) r h = absurd (true≢false h)
+    empty-ends (Backward P) r h = absurd (true≢false h)
+    empty-ends Reached r h = absurd r
+    empty-ends Common r h = absurd r
+
+  module _ (e n : ℕ) (h : HasPath w e) where
+    last : e ≡ suc (e - 1)
+    last = omega (arith, path-some e h)
+
+    reads : ReadsPath w (e - 1) (tokenAt w (e - 1))
+    reads = path-reads w (e - 1) (tokenAt w (e - 1)) (subst (HasPath w) last h) refl
+
+    pub end-step : So (stepAt w (e - 1)) → endAt w e n ≡ stepNumber w (e - 1)
+    end-step s = ap (λ (i : ℕ). endAt w i n) last ∙ step-ends (e - 1) n (tokenAt w (e - 1)) reads s
+
+    pub end-empty : stepAt w (e - 1) ≡ false → endAt w e n ≡ n
+    end-empty s = ap (λ (i : ℕ). endAt w i n) last ∙ empty-ends (e - 1) n (tokenAt w (e - 1)) reads s

@@ -1,0 +1,3 @@
+-- Laws that several proofs here share.
+mod ScanLaws
+pub mod EndLaws
