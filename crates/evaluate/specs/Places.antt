@@ -9,7 +9,7 @@ use Rattle.records.specs.Concept.{Concept, both, reached, common, Path, step}
 use Rattle.records.specs.Layout.{conceptLayout, entries}
 use Rattle.records.specs.ConceptRecord.{Pile, pileAfter, topConcept}
 use Rattle.records.specs.StateRecord.{stateOf}
-use Rattle.records.proofs.PileLaws.{topPath, below}
+use Rattle.records.specs.Pile.{topPath, below}
 use Rattle.evaluate.specs.Selection.{Selection, Relation}
 use Rattle.evaluate.specs.Steps.{directionOf}
 use Rattle.evaluate.specs.Evaluable.{Evaluable}

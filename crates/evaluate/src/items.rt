@@ -17,7 +17,7 @@ use records::state::CONSTANT_KINDS;
 use records::state::objects;
 ghost use Prim.Native.Nat.{_<_, _^_};
 ghost use Rattle.records.specs.ConceptRecord.{pileAfter};
-ghost use Rattle.records.proofs.PileLaws.{below, HasConcept, HasPath};
+ghost use Rattle.records.specs.Pile.{below, HasConcept, HasPath};
 ghost use Rattle.evaluate.specs.Places.{Place, ConceptAt, BothAt, ReachedAt, CommonAt, PathAt, StepAt};
 
 // Where a concept's tokens start, and the set that it selects.

@@ -11,33 +11,7 @@ use Rattle.records.specs.declared.concept.Token.the-variants.{Class, Eve
 use Rattle.records.specs.Concept.{Direction, forward, backward, Concept, class, everything, constant, both, reached, common, Path, empty, step}
 use Rattle.records.specs.ConceptRecord.{tokenAt, Item, Pile, takeConcept, takePath, push, after, pileAfter, topConcept}
 use Rattle.records.specs.Refusal.{isConcept}
-
--- the path on top (any, where there is none)
-abbrev pub topPath : Pile → Path
-topPath none = empty
-topPath (some []) = empty
-topPath (some (Item.concept C ∷ s)) = empty
-topPath (some (Item.path p ∷ s)) = p
-
--- the pile without its top
-abbrev pub below : Pile → Pile
-below none = none
-below (some []) = none
-below (some (x ∷ s)) = some s
-
--- a concept is on top
-abbrev pub HasConcept : Pile → Type 0
-HasConcept none = ⊥
-HasConcept (some []) = ⊥
-HasConcept (some (Item.concept C ∷ s)) = Unit {0}
-HasConcept (some (Item.path p ∷ s)) = ⊥
-
--- a path is on top
-abbrev pub HasPath : Pile → Type 0
-HasPath none = ⊥
-HasPath (some []) = ⊥
-HasPath (some (Item.concept C ∷ s)) = ⊥
-HasPath (some (Item.path p ∷ s)) = Unit {0}
+use Rattle.records.specs.Pile.{topPath, below, HasConcept, HasPath}
 
 -- What the pile p was before a token made it q, by what the token takes.
 

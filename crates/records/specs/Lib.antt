@@ -18,3 +18,4 @@ pub mod Refusal
 pub mod Executable
 -- What contracts of helper functions cite, and nothing above them.
 pub mod Scan
+pub mod Pile

@@ -33,9 +33,10 @@ number-requires-2 c κs = tt
 
 returns-2 : tie.Need-returns-2
 returns-2 c =
-    let z = schema-signature (c .before .before .before .before .before .before .before .before .before .args .schema .now) (c .before .before .before .before .checked .given .0 .0) (sym (c .before .before .before .before .before .before .check-schema .ensures) ∙ c .before .before .before .before .checked .given .1) in
+    let a = c .before .before .before .before .before .before .before .before .before .args in
+    let z = schema-signature (a .schema .now) (c .before .before .before .before .checked .given .0 .0) (sym (c .before .before .before .before .before .before .check-schema .ensures) ∙ c .before .before .before .before .checked .given .1) in
     rw (c .number2 .ensures, c .before .before .check-state .ensures, z .0)
-    (legal-state (c .before .before .before .before .before .before .before .before .before .args .schema .now) (c .before .before .before .before .before .before .before .before .before .args .state .now) (z .1)
+    (legal-state (a .schema .now) (a .state .now) (z .1)
     (rw (c .before .before .check-state .ensures, z .0) at (state-refused (c .before .before .check-state .result) (c .before .match2 .keys2))))
 
 index-requires : tie.Need-index-requires
@@ -57,17 +58,19 @@ axioms-requires c κs = tt
 returns-3 : tie.Need-returns-3
 unfolding schemaOf
 returns-3 c =
-    let z = schema-signature (c .before .before .before .before .before .before .before .before .before .before .before .before .before .before .args .schema .now) (c .before .before .before .before .before .before .before .before .before .checked .given .0 .0) (sym (c .before .before .before .before .before .before .before .before .before .before .before .check-schema .ensures) ∙ c .before .before .before .before .before .before .before .before .before .checked .given .1) in
-    judged-legal (schemaOf (c .before .before .before .before .before .before .before .before .before .before .before .before .before .before .args .schema .now)) (stateOf (c .before .before .before .before .before .before .before .before .before .before .before .before .before .before .args .state .now)) (sym (c .before .before .first-broken .ensures) ∙ c .if1 .taken ∙ c .before .axioms .ensures .value)
-    ∙ legal-answer (c .before .before .before .before .before .before .before .before .before .before .before .before .before .before .args .schema .now) (c .before .before .before .before .before .before .before .before .before .before .before .before .before .before .args .state .now) (z .1) (rw (z .0) at (sym (c .before .before .before .before .before .before .before .check-state .ensures) ∙ c .before .before .before .before .before .enum-told .given .1))
+    let a = c .before .before .before .before .before .before .before .before .before .before .before .before .before .before .args in
+    let z = schema-signature (a .schema .now) (c .before .before .before .before .before .before .before .before .before .checked .given .0 .0) (sym (c .before .before .before .before .before .before .before .before .before .before .before .check-schema .ensures) ∙ c .before .before .before .before .before .before .before .before .before .checked .given .1) in
+    judged-legal (schemaOf (a .schema .now)) (stateOf (a .state .now)) (sym (c .before .before .first-broken .ensures) ∙ c .if1 .taken ∙ c .before .axioms .ensures .value)
+    ∙ legal-answer (a .schema .now) (a .state .now) (z .1) (rw (z .0) at (sym (c .before .before .before .before .before .before .before .check-state .ensures) ∙ c .before .before .before .before .before .enum-told .given .1))
 
 returns-4 : tie.Need-returns-4
 unfolding schemaOf
 returns-4 c =
-    let z = schema-signature (c .before .before .before .before .before .before .before .before .before .before .before .before .before .before .args .schema .now) (c .before .before .before .before .before .before .before .before .before .checked .given .0 .0) (sym (c .before .before .before .before .before .before .before .before .before .before .before .check-schema .ensures) ∙ c .before .before .before .before .before .before .before .before .before .checked .given .1) in
-    judged-broken (schemaOf (c .before .before .before .before .before .before .before .before .before .before .before .before .before .before .args .schema .now)) (stateOf (c .before .before .before .before .before .before .before .before .before .before .before .before .before .before .args .state .now)) (c .before .before .first-broken .result) (c .before .before .first-broken .ensures)
+    let a = c .before .before .before .before .before .before .before .before .before .before .before .before .before .before .args in
+    let z = schema-signature (a .schema .now) (c .before .before .before .before .before .before .before .before .before .checked .given .0 .0) (sym (c .before .before .before .before .before .before .before .before .before .before .before .check-schema .ensures) ∙ c .before .before .before .before .before .before .before .before .before .checked .given .1) in
+    judged-broken (schemaOf (a .schema .now)) (stateOf (a .state .now)) (c .before .before .first-broken .result) (c .before .before .first-broken .ensures)
     (λ e. c .if1 .left (e ∙ sym (c .before .axioms .ensures .value)))
-    ∙ legal-answer (c .before .before .before .before .before .before .before .before .before .before .before .before .before .before .args .schema .now) (c .before .before .before .before .before .before .before .before .before .before .before .before .before .before .args .state .now) (z .1) (rw (z .0) at (sym (c .before .before .before .before .before .before .before .check-state .ensures) ∙ c .before .before .before .before .before .enum-told .given .1))
+    ∙ legal-answer (a .schema .now) (a .state .now) (z .1) (rw (z .0) at (sym (c .before .before .before .before .before .before .before .check-state .ensures) ∙ c .before .before .before .before .before .enum-told .given .1))
 
 pub legal-spec : {M : Type 1} → statement M
 legal-spec =

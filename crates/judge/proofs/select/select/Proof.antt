@@ -24,8 +24,9 @@ number-requires c κs = tt
 
 returns : tie.Need-returns
 returns c =
+    let a = c .before .before .before .before .before .before .before .args in
     rw (c .number .ensures, c .before .before .check-schema .ensures)
-    (select-schema (c .before .before .before .before .before .before .before .args .schema .now) (c .before .before .before .before .before .before .before .args .concept .now) (c .before .before .before .before .before .before .before .args .state .now) (c .before .before .before .before .before .before .before .args .lent .now) (rw (c .before .before .check-schema .ensures) at (schema-refused (c .before .before .check-schema .result) (c .before .match .keys2))))
+    (select-schema (a .schema .now) (a .concept .now) (a .state .now) (a .lent .now) (rw (c .before .before .check-schema .ensures) at (schema-refused (c .before .before .check-schema .result) (c .before .match .keys2))))
 
 check-query-requires : tie.Need-check-query-requires
 check-query-requires c κs = tt
@@ -38,9 +39,10 @@ number-requires-2 c κs = tt
 
 returns-2 : tie.Need-returns-2
 returns-2 c =
-    let z = schema-signature (c .before .before .before .before .before .before .before .before .before .before .before .args .schema .now) (c .before .before .before .before .checked .given .0 .0) (sym (c .before .before .before .before .before .before .check-schema .ensures) ∙ c .before .before .before .before .checked .given .1) in
+    let a = c .before .before .before .before .before .before .before .before .before .before .before .args in
+    let z = schema-signature (a .schema .now) (c .before .before .before .before .checked .given .0 .0) (sym (c .before .before .before .before .before .before .check-schema .ensures) ∙ c .before .before .before .before .checked .given .1) in
     rw (c .number2 .ensures, c .before .before .check-query .ensures, z .0)
-    (select-concept (c .before .before .before .before .before .before .before .before .before .before .before .args .schema .now) (c .before .before .before .before .before .before .before .before .before .before .before .args .concept .now) (c .before .before .before .before .before .before .before .before .before .before .before .args .state .now) (c .before .before .before .before .before .before .before .before .before .before .before .args .lent .now) (z .1)
+    (select-concept (a .schema .now) (a .concept .now) (a .state .now) (a .lent .now) (z .1)
     (rw (c .before .before .check-query .ensures, z .0) at (concept-refused (c .before .before .check-query .result) (c .before .match2 .keys2))))
 
 check-state-requires : tie.Need-check-state-requires
@@ -54,9 +56,10 @@ number-requires-3 c κs = tt
 
 returns-3 : tie.Need-returns-3
 returns-3 c =
-    let z = schema-signature (c .before .before .before .before .before .before .before .before .before .before .before .before .before .before .args .schema .now) (c .before .before .before .before .before .before .before .checked .given .0 .0) (sym (c .before .before .before .before .before .before .before .before .before .check-schema .ensures) ∙ c .before .before .before .before .before .before .before .checked .given .1) in
+    let a = c .before .before .before .before .before .before .before .before .before .before .before .before .before .before .args in
+    let z = schema-signature (a .schema .now) (c .before .before .before .before .before .before .before .checked .given .0 .0) (sym (c .before .before .before .before .before .before .before .before .before .check-schema .ensures) ∙ c .before .before .before .before .before .before .before .checked .given .1) in
     rw (c .number3 .ensures, c .before .before .check-state .ensures, z .0)
-    (select-state (c .before .before .before .before .before .before .before .before .before .before .before .before .before .before .args .schema .now) (c .before .before .before .before .before .before .before .before .before .before .before .before .before .before .args .concept .now) (c .before .before .before .before .before .before .before .before .before .before .before .before .before .before .args .state .now) (c .before .before .before .before .before .before .before .before .before .before .before .before .before .before .args .lent .now) (z .1) (rw (z .0) at (sym (c .before .before .before .before .before .check-query .ensures) ∙ c .before .before .before .enum-told .given .1))
+    (select-state (a .schema .now) (a .concept .now) (a .state .now) (a .lent .now) (z .1) (rw (z .0) at (sym (c .before .before .before .before .before .check-query .ensures) ∙ c .before .before .before .enum-told .given .1))
     (rw (c .before .before .check-state .ensures, z .0) at (state-refused (c .before .before .check-state .result) (c .before .match3 .keys2))))
 
 objects-requires : tie.Need-objects-requires
@@ -65,8 +68,9 @@ objects-requires c κs = tt
 returns-4 : tie.Need-returns-4
 unfolding refusal-11
 returns-4 c =
-    let z = schema-signature (c .before .before .before .before .before .before .before .before .before .before .before .before .before .before .before .before .args .schema .now) (c .before .before .before .before .before .before .before .before .before .checked .given .0 .0) (sym (c .before .before .before .before .before .before .before .before .before .before .before .check-schema .ensures) ∙ c .before .before .before .before .before .before .before .before .before .checked .given .1) in
-    select-lent (c .before .before .before .before .before .before .before .before .before .before .before .before .before .before .before .before .args .schema .now) (c .before .before .before .before .before .before .before .before .before .before .before .before .before .before .before .before .args .concept .now) (c .before .before .before .before .before .before .before .before .before .before .before .before .before .before .before .before .args .state .now) (c .before .before .before .before .before .before .before .before .before .before .before .before .before .before .before .before .args .lent .now) (z .1) (rw (z .0) at (sym (c .before .before .before .before .before .before .before .check-query .ensures) ∙ c .before .before .before .before .before .enum-told .given .1)) (rw (z .0) at (sym (c .before .before .before .before .check-state .ensures) ∙ c .before .before .enum-told2 .given .1)) (rw (c .before .objects .ensures .value) at (lt-ltb _ _ (c .if1 .taken)))
+    let a = c .before .before .before .before .before .before .before .before .before .before .before .before .before .before .before .before .args in
+    let z = schema-signature (a .schema .now) (c .before .before .before .before .before .before .before .before .before .checked .given .0 .0) (sym (c .before .before .before .before .before .before .before .before .before .before .before .check-schema .ensures) ∙ c .before .before .before .before .before .before .before .before .before .checked .given .1) in
+    select-lent (a .schema .now) (a .concept .now) (a .state .now) (a .lent .now) (z .1) (rw (z .0) at (sym (c .before .before .before .before .before .before .before .check-query .ensures) ∙ c .before .before .before .before .before .enum-told .given .1)) (rw (z .0) at (sym (c .before .before .before .before .check-state .ensures) ∙ c .before .before .enum-told2 .given .1)) (rw (c .before .objects .ensures .value) at (lt-ltb _ _ (c .if1 .taken)))
 
 index-requires : tie.Need-index-requires
 index-requires c κs = tt
@@ -92,11 +96,12 @@ same-length c = search needs
 returns-5 : tie.Need-returns-5
 unfolding refusal-11 stateOf
 returns-5 c =
-    let z = schema-signature (c .before .before .before .before .before .before .before .before .before .before .before .before .before .before .before .before .before .before .before .before .before .before .before .before .args .schema .now) (c .before .before .before .before .before .before .before .before .before .before .before .before .before .before .before .before .before .checked .given .0 .0) (sym (c .before .before .before .before .before .before .before .before .before .before .before .before .before .before .before .before .before .before .before .check-schema .ensures) ∙ c .before .before .before .before .before .before .before .before .before .before .before .before .before .before .before .before .before .checked .given .1) in
+    let a = c .before .before .before .before .before .before .before .before .before .before .before .before .before .before .before .before .before .before .before .before .before .before .before .before .args in
+    let z = schema-signature (a .schema .now) (c .before .before .before .before .before .before .before .before .before .before .before .before .before .before .before .before .before .checked .given .0 .0) (sym (c .before .before .before .before .before .before .before .before .before .before .before .before .before .before .before .before .before .before .before .check-schema .ensures) ∙ c .before .before .before .before .before .before .before .before .before .before .before .before .before .before .before .before .before .checked .given .1) in
     rw (c .before .before .mark .ensures .0, c .before .before .mark .ensures .1, c .before .before .before .before .before .before .before .before .before .objects .ensures .value)
-    (selection-is (stateOf (c .before .before .before .before .before .before .before .before .before .before .before .before .before .before .before .before .before .before .before .before .before .before .before .before .args .state .now)) (conceptOf (c .before .before .before .before .before .before .before .before .before .before .before .before .before .before .before .before .before .before .before .before .before .before .before .before .args .concept .now)) (c .before .before .before .before .before .before .before .before .before .before .before .before .before .before .before .before .before .before .before .before .before .before .before .before .args .lent .now) (c .before .before .before .before .before .evaluate .result) (c .before .before .before .before .before .evaluate .ensures)
-    (omega (arith, objects-few (c .before .before .before .before .before .before .before .before .before .before .before .before .before .before .before .before .before .before .before .before .before .before .before .before .args .state .now) (passes-7 _ _ (rw (z .0) at (sym (c .before .before .before .before .before .before .before .before .before .before .before .before .check-state .ensures) ∙ c .before .before .before .before .before .before .before .before .before .before .enum-told2 .given .1)))))
-    ∙ select-answer (c .before .before .before .before .before .before .before .before .before .before .before .before .before .before .before .before .before .before .before .before .before .before .before .before .args .schema .now) (c .before .before .before .before .before .before .before .before .before .before .before .before .before .before .before .before .before .before .before .before .before .before .before .before .args .concept .now) (c .before .before .before .before .before .before .before .before .before .before .before .before .before .before .before .before .before .before .before .before .before .before .before .before .args .state .now) (c .before .before .before .before .before .before .before .before .before .before .before .before .before .before .before .before .before .before .before .before .before .before .before .before .args .lent .now) (z .1) (rw (z .0) at (sym (c .before .before .before .before .before .before .before .before .before .before .before .before .before .before .before .check-query .ensures) ∙ c .before .before .before .before .before .before .before .before .before .before .before .before .before .enum-told .given .1)) (rw (z .0) at (sym (c .before .before .before .before .before .before .before .before .before .before .before .before .check-state .ensures) ∙ c .before .before .before .before .before .before .before .before .before .before .enum-told2 .given .1)) (rw (c .before .before .before .before .before .before .before .before .before .objects .ensures .value) at (le-ltb _ _ (c .before .before .before .before .before .before .before .before .if1 .left))))
+    (selection-is (stateOf (a .state .now)) (conceptOf (a .concept .now)) (a .lent .now) (c .before .before .before .before .before .evaluate .result) (c .before .before .before .before .before .evaluate .ensures)
+    (omega (arith, objects-few (a .state .now) (passes-7 _ _ (rw (z .0) at (sym (c .before .before .before .before .before .before .before .before .before .before .before .before .check-state .ensures) ∙ c .before .before .before .before .before .before .before .before .before .before .enum-told2 .given .1)))))
+    ∙ select-answer (a .schema .now) (a .concept .now) (a .state .now) (a .lent .now) (z .1) (rw (z .0) at (sym (c .before .before .before .before .before .before .before .before .before .before .before .before .before .before .before .check-query .ensures) ∙ c .before .before .before .before .before .before .before .before .before .before .before .before .before .enum-told .given .1)) (rw (z .0) at (sym (c .before .before .before .before .before .before .before .before .before .before .before .before .check-state .ensures) ∙ c .before .before .before .before .before .before .before .before .before .before .enum-told2 .given .1)) (rw (c .before .before .before .before .before .before .before .before .before .objects .ensures .value) at (le-ltb _ _ (c .before .before .before .before .before .before .before .before .if1 .left))))
 
 pub select-spec : {M : Type 1} → statement M
 select-spec =
