@@ -1,27 +1,26 @@
 -- Accepted records make a well-formed task within the limits: they name what is declared, and a concept has the steps that its
 -- record counts.
-use Prim.Native.Nat.{ℕ, zero, _≤_, _<_}
+use Prim.Native.Nat.{ℕ, zero, _≤_}
 use native.Mathlib.Omega.{arith}
-use mathlib.Core.Bool.{Bool, true, false, So, not, _&&_, _||_, false≢true}
+use mathlib.Core.Bool.{false, So, not, _&&_}
 use mathlib.Core.List.{List}
-use mathlib.Core.Path.{_≡_, refl, sym, ap, _∙_}
+use mathlib.Core.Path.{_≡_, ap}
 use lib.Dec.{eqb, ltb}
 use borrow.Author.Tests.{ltb-true, ltb-false, not-false}
 use Rattle.records.specs.declared.schema.Axiom.{Axiom}
 use Rattle.records.specs.declared.schema.Axiom.the-variants.{Subclass, Typing, Necessary, Single, Relates}
 use Rattle.records.specs.declared.schema.Signature.{Signature}
-use Rattle.records.specs.Finite.{any, count}
-use Rattle.records.specs.Layout.{schemaLayout, conceptLayout, sizeAt, entries, leftAt, rightAt, maxClasses, maxAttributes, maxConstants, maxAxioms, querySteps, viewSteps}
-use Rattle.records.specs.SchemaRecord.{signatureOf, axiomKind, schemaOf}
-use Rattle.records.specs.ConceptRecord.{tokenAt, pileAfter, conceptOf}
-use Rattle.records.specs.Refusal.{misshapen, outside, oversized, declares, suits, isConcept, steps, faultyAxiom, faultyToken, refusal-1, refusal-2, refusal-4, refusal-5, refusal-6, AcceptedSchema, AcceptedConcept}
-use Rattle.records.proofs.AcceptedLaws.{passes-1, passes-2, passes-4, passes-5, passes-6}
+use Rattle.records.specs.Finite.{count}
+use Rattle.records.specs.Layout.{schemaLayout, conceptLayout, sizeAt, entries, leftAt, maxClasses, maxAttributes, maxConstants, maxAxioms, querySteps, viewSteps}
+use Rattle.records.specs.SchemaRecord.{signatureOf, schemaOf}
+use Rattle.records.specs.ConceptRecord.{pileAfter, conceptOf}
+use Rattle.records.specs.Refusal.{misshapen, outside, oversized, declares, isConcept, steps, faultyToken, refusal-1, refusal-2, refusal-4, refusal-5, refusal-6, AcceptedSchema, AcceptedConcept}
+use Rattle.records.proofs.AcceptedLaws.{passes-1, passes-2, passes-4, passes-5, passes-6, axiom-declared, token-faultless}
 use Rattle.chase.specs.Steps.{conceptSteps}
 use Rattle.chase.specs.Declared.{DeclaredAxiom, Declared}
 use Rattle.chase.specs.Task.{Task, WellFormed, taskOf}
 use Rattle.chase.specs.Tokens.{startOf, HasConcept, stepNumber}
 use Rattle.chase.proofs.TestLaws.{and-parts, or-false}
-use Rattle.chase.proofs.CountLaws.{any-of}
 use Rattle.chase.proofs.TokenLaws.{number-concept, declared-concept, whole-concept}
 
 declares-is : (s : Signature) (x : Axiom) → So (declares s x) → DeclaredAxiom s x
@@ -39,14 +38,6 @@ declares-is s (Relates P A B) h =
     let k = and-parts (ltb P (s .attributes) && ltb A (s .classes)) (ltb B (s .classes)) h in
     let l = and-parts (ltb P (s .attributes)) (ltb A (s .classes)) (k .0) in
     (ltb-true _ _ (l .0), ltb-true _ _ (l .1), ltb-true _ _ (k .1))
-
--- where no number fails, each passes
-none-fails : (f g : ℕ → Bool) (n i : ℕ) → any n (λ j. f j || not (g j)) ≡ false → i < n → So (g i)
-none-fails f g n i q h = go (f i || not (g i)) refl
-  where
-    go : (b : Bool) → f i || not (g i) ≡ b → So (g i)
-    go true e = absurd (false≢true (sym q ∙ any-of (λ j. f j || not (g j)) n i h e))
-    go false e = not-false (g i) (or-false (f i) (not (g i)) e .1)
 
 -- a concept whose record is not refused for its pile
 module _ (w : List ℕ) (pile : refusal-5 w ≡ false) where
@@ -66,25 +57,19 @@ module _ (w : List ℕ) (pile : refusal-5 w ≡ false) where
       omega (arith, accepted-steps, ltb-false limit (steps w) (or-false (not (eqb (steps w) (sizeAt w 1))) (ltb limit (steps w)) q .1))
 
 pub accepted-declared : (s : Signature) (w : List ℕ) → refusal-4 s w ≡ false → refusal-5 w ≡ false → Declared s (conceptOf w)
-unfolding refusal-4 faultyToken conceptOf
+unfolding faultyToken conceptOf
 accepted-declared s w b c =
     declared-concept w s (entries conceptLayout w)
-    (λ i h.
-    none-fails (λ i. outside 1 9 (leftAt conceptLayout w i)) (λ i. suits s (tokenAt w i) (rightAt conceptLayout w i))
-    (entries conceptLayout w) i b h)
+    (λ i h. not-false _ (or-false (outside 1 9 (leftAt conceptLayout w i)) _ (token-faultless s w b i h) .1))
     (accepted-concept w c .0)
 
 pub accepted-formed : (schema query view : List ℕ) → refusal-2 schema ≡ false → refusal-4 (signatureOf schema) query ≡ false
     → refusal-5 query ≡ false
     → WellFormed (taskOf schema query view)
-unfolding taskOf schemaOf refusal-2 faultyAxiom
+unfolding taskOf schemaOf
 accepted-formed schema query view a b c =
     record {
-      axioms = λ i h.
-          declares-is (signatureOf schema) (schemaOf schema .axiomAt i)
-          (none-fails (λ i. outside 1 5 (axiomKind (leftAt schemaLayout schema i)))
-          (λ i. declares (signatureOf schema) (schemaOf schema .axiomAt i))
-          (entries schemaLayout schema) i a h);
+      axioms = λ i h. declares-is (signatureOf schema) (schemaOf schema .axiomAt i) (axiom-declared schema a i h);
       query = accepted-declared (signatureOf schema) query b c;
     }
 

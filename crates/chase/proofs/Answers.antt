@@ -31,7 +31,7 @@ use Rattle.chase.proofs.ClosingLaws.{pair-kept}
 use Rattle.chase.proofs.Consequence.{Follows, fitting}
 use Rattle.chase.proofs.Extension.{Made}
 use Rattle.chase.proofs.Done.{Done, opened, held}
-use Rattle.chase.proofs.CountLaws.{count-le, any-is, any-of}
+use Rattle.chase.proofs.CountLaws.{count-le, any-found, any-of}
 use Rattle.chase.proofs.PrimeLaws.{Ok}
 use Rattle.chase.proofs.PrimaryLaws.{within, Closed, primary-ok, primary-closed}
 use Rattle.chase.proofs.GroundLaws.{Grounded, nodeOf, object-inside, object-set, object-rep, rep-object, grounded}
@@ -170,8 +170,8 @@ clash-is : (t : Task) → So (clash t)
     × (repOf (primary t) (constantNode t a) ≡ repOf (primary t) (constantNode t b))
 unfolding clash
 clash-is t c =
-    let y = any-is _ (t .schema .signature .constants) c in
-    let z = any-is _ (y .0) (y .2) in
+    let y = any-found _ (t .schema .signature .constants) c in
+    let z = any-found _ (y .0) (y .2) in
     (z .0, y .0, z .1, y .1, eqb-true _ _ (z .2))
 
 clash-of : (t : Task) (a b : ℕ) → a < b → b < t .schema .signature .constants

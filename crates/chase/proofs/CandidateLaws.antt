@@ -22,7 +22,7 @@ use Rattle.chase.specs.Task.{Task, WellFormed}
 use Rattle.chase.specs.Ground.{Ground, setAt}
 use Rattle.chase.specs.Forest.{Forest, bare, grow, size, kid, asks, classesOf, lacks}
 use Rattle.chase.specs.Candidate.{links, lacking, objects, chased}
-use Rattle.chase.proofs.TestLaws.{and-both, and-parts, or-left, or-right, or-cases, met, cond-elim}
+use Rattle.chase.proofs.TestLaws.{and-both, and-parts, or-left, or-right, or-true-cases, met, cond-elim}
 use Rattle.chase.proofs.All.{All, all-map}
 use Rattle.chase.proofs.CountLaws.{any-of}
 use Rattle.chase.proofs.ClassSetLaws.{full-has}
@@ -36,7 +36,7 @@ use Rattle.chase.proofs.ForestLaws.{Grown, ground-size, grown-classes, 
 any-find : {A : Type 0} (test : A → Bool) (X : A → Type 0) (l : List A) → All X l → So (anyOf test l) → (a : A) × So (test a) × X a
 unfolding anyOf
 any-find test X [] h t = absurd (false≢true t)
-any-find test X (a ∷ l) h t = ⊎-elim (λ y. (a, y, h .0)) (any-find test X l (h .1)) (or-cases (test a) (anyOf test l) t)
+any-find test X (a ∷ l) h t = ⊎-elim (λ y. (a, y, h .0)) (any-find test X l (h .1)) (or-true-cases (test a) (anyOf test l) t)
 
 -- .. and another test that such an entry passes
 any-also : {A : Type 0} (test also : A → Bool) → ((a : A) → So (test a) → So (also a)) → (l : List A) → So (anyOf test l)
@@ -45,7 +45,7 @@ unfolding anyOf
 any-also test also f [] t = absurd (false≢true t)
 any-also test also f (a ∷ l) t =
     ⊎-elim (λ y. or-left (also a) (anyOf also l) (f a y)) (λ y. or-right (also a) (anyOf also l) (any-also test also f l y))
-    (or-cases (test a) (anyOf test l) t)
+    (or-true-cases (test a) (anyOf test l) t)
 
 -- each entry is among the entries
 any-self : {A : Type 0} (test : A → A → Bool) → ((a : A) → So (test a a)) → (l : List A) → All (λ a. So (anyOf (test a) l)) l
@@ -115,7 +115,7 @@ full-beyond S G (grow T m P c) d h =
 -- a pair of the candidate is one of the query, or leads to a made value
 pub pair-is : (S : Schema) (G : Ground) (T : Forest) (P d e : ℕ) → Related (chased S G T) P d e
     → So (links G P d e) ⊎ (kid G T P d ≡ suc e)
-pair-is S G T P d e r = ⊎-elim inl (λ k. inr (eqb-true (kid G T P d) (suc e) k)) (or-cases (links G P d e) (eqb (kid G T P d) (suc e)) r)
+pair-is S G T P d e r = ⊎-elim inl (λ k. inr (eqb-true (kid G T P d) (suc e) k)) (or-true-cases (links G P d e) (eqb (kid G T P d) (suc e)) r)
 
 pub room : (S : Schema) (G : Ground) (T : Forest) → size G T ≤ objects S G T
 unfolding objects
@@ -274,7 +274,7 @@ module _ (t : Task) (formed : WellFormed t) (G : Ground) (node : ℕ → ℕ) (T
             or-right (links G P d e) (eqb (kid G T P d) (suc e))
                 (eq-eqb (kid G T P d) (suc e) q),
           ))
-          (or-cases (asks G P d) (ltb 0 (kid G T P d)) (met (needs S (cls d) P) (asks G P d || ltb 0 (kid G T P d)) q n)))
+          (or-true-cases (asks G P d) (ltb 0 (kid G T P d)) (met (needs S (cls d) P) (asks G P d || ltb 0 (kid G T P d)) q n)))
 
   pub candidate-chased : (i : ℕ) → i < S .axioms → Chased F (lacks S G T) u (S .axiomAt i)
   candidate-chased i h = go (S .axiomAt i) (i, h, refl)

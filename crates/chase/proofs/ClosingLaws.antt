@@ -11,7 +11,7 @@ use Rattle.records.specs.declared.schema.Axiom.the-variants.{Subclass, Typing, 
 use Rattle.records.specs.State.{State, Member, Related, Every, Some, Names}
 use Rattle.records.specs.Schema.{Schema, Holds, Legal}
 use Rattle.chase.specs.Closing.{closed}
-use Rattle.chase.proofs.TestLaws.{or-left, or-right, or-cases, and-both, and-parts}
+use Rattle.chase.proofs.TestLaws.{or-left, or-right, or-true-cases, and-both, and-parts}
 
 -- F holds the axiom, but for values of Necessary that are lacking, and it goes on to hold where u is those values
 abbrev pub Chased : State → (ℕ → ℕ → Bool) → ℕ → Axiom → Type 0
@@ -26,7 +26,7 @@ module _ (F : State) (lack : ℕ → ℕ → Bool) (u : ℕ) where
   pub pair-cases : (P d e : ℕ) → Related (closed F lack u) P d e → Related F P d e ⊎ (So (lack P d) × (e ≡ u))
   pair-cases P d e x =
       ⊎-elim inl (λ y. inr (and-parts (lack P d) (eqb e u) y .0, eqb-true e u (and-parts (lack P d) (eqb e u) y .1)))
-      (or-cases (F .pairs P d e) (lack P d && eqb e u) x)
+      (or-true-cases (F .pairs P d e) (lack P d && eqb e u) x)
 
   pub pair-kept : (P d e : ℕ) → Related F P d e → Related (closed F lack u) P d e
   pair-kept P d e x = or-left (F .pairs P d e) (lack P d && eqb e u) x

@@ -2,20 +2,20 @@
 use Prim.Native.Nat.{ℕ, zero, suc, _≤_, _<_}
 use native.Mathlib.Omega.{arith}
 use native.Mathlib.Decide.{decLt}
-use mathlib.Core.Bool.{Bool, false, So, cond, false≢true}
-use mathlib.Core.Logic.{⊎-elim}
+use mathlib.Core.Bool.{Bool, false, So, cond}
 use mathlib.Core.Path.{_≡_, refl, ap, subst, _∙_}
 use mathlib.Core.List.{List, [], _∷_, _++_}
 use lib.Dec.{eqb}
 use lib.ListN.{length, getD, length-append, List·getD-append}
 use lib.Seq.{getD-at}
 use borrow.Author.Tests.{eqb-true, eqb-false}
-use Rattle.records.specs.Finite.{any, count}
+use Rattle.records.specs.Finite.{count}
 use Rattle.records.proofs.BoolLaws.{false-of}
 use Rattle.records.proofs.FiniteLaws.{none-count}
+pub use Rattle.records.proofs.FiniteLaws.{count-le, any-of, any-found}
 use Rattle.chase.specs.Loops.{upto}
 use Rattle.chase.specs.Ground.{listing}
-use Rattle.chase.proofs.TestLaws.{cond-elim, cond-elim₂, or-left, or-right, or-cases}
+use Rattle.chase.proofs.TestLaws.{cond-elim, cond-elim₂}
 use Rattle.chase.proofs.Numbers.{up-to}
 
 module _ (test : ℕ → Bool) where
@@ -26,11 +26,6 @@ module _ (test : ℕ → Bool) where
   pub count-next : (n : ℕ) → So (test n) → count (suc n) test ≡ suc (count n test)
   unfolding count
   count-next n h = ap (λ (b : Bool). cond b (suc (count n test)) (count n test)) h
-
-  pub count-le : (n : ℕ) → count n test ≤ n
-  unfolding count
-  count-le zero = omega arith
-  count-le (suc n) = cond-elim (λ c. c ≤ suc n) (test n) (λ _. omega (arith, count-le n)) (λ _. omega (arith, count-le n))
 
   -- a number that passes has fewer before it than any later number
   pub count-lt : (n i : ℕ) → i < n → So (test i) → count i test < count n test
@@ -64,7 +59,7 @@ module _ (test : ℕ → Bool) where
 
   pub pick-is : (n d : ℕ) → d < count n test → (pick n d < n) × So (test (pick n d)) × (count (pick n d) test ≡ d)
   unfolding pick
-  pick-is zero d h = absurd (omega (arith, count-le zero))
+  pick-is zero d h = absurd (omega (arith, count-le test zero))
   pick-is (suc n) d h =
       cond-elim X (test n)
       (λ p. cond-elim X (eqb (count n test) d) (λ e. (omega arith, p, eqb-true (count n test) d e))
@@ -110,16 +105,3 @@ module _ (test : ℕ → Bool) where
         ap (λ (b : Bool). getD (cond b (listing test f n ++ (f n ∷ [])) (listing test f n)) (count n test) 0) q
         ∙ getD-at (listing test f n) (f n) [] 0 (count n test) (listing-length n))
         i h p
-
-pub any-of : (f : ℕ → Bool) (n i : ℕ) → i < n → So (f i) → So (any n f)
-unfolding any
-any-of f zero i h p = absurd (omega arith)
-any-of f (suc n) i h p =
-    up-to (λ j. So (f j) → So (any (suc n) f)) n (λ j k q. or-left (any n f) (f n) (any-of f n j k q))
-    (λ q. or-right (any n f) (f n) q) i h p
-
-pub any-is : (f : ℕ → Bool) (n : ℕ) → So (any n f) → (i : ℕ) × (i < n) × So (f i)
-unfolding any
-any-is f zero h = absurd (false≢true h)
-any-is f (suc n) h =
-    ⊎-elim (λ k. let r = any-is f n k in (r .0, omega (arith, r .1), r .2)) (λ k. (n, omega arith, k)) (or-cases (any n f) (f n) h)

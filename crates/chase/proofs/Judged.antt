@@ -39,22 +39,18 @@ judged-held t formed view J same (no x) none = go (clash t) refl
 
 module _ (schema query view : List ℕ) (legal : AcceptedSchema schema) (asked : AcceptedConcept querySteps (signatureOf schema) query)
     (stored : AcceptedConcept viewSteps (signatureOf schema) view) where
-  -- the record and the state of the candidate
-  abbrev record-of : List ℕ
-  record-of = written (taskOf schema query view)
-
   within : Within (taskOf schema query view)
   within = accepted-within schema query view legal asked stored
 
   pub written-judged : clash (taskOf schema query view) ≡ false
-      → AcceptedState (signatureOf schema) record-of
-      × (((d : ℕ) → Counterexample (schemaOf schema) (conceptOf query) (conceptOf view) (stateOf record-of) d → ⊥)
+      → AcceptedState (signatureOf schema) (written (taskOf schema query view))
+      × (((d : ℕ) → Counterexample (schemaOf schema) (conceptOf query) (conceptOf view) (stateOf (written (taskOf schema query view))) d → ⊥)
       → Held (schemaOf schema) (conceptOf query) (conceptOf view))
   unfolding taskOf schemaOf
   written-judged c =
       let t = taskOf schema query view in (
         written-accepted t within c,
-        judged-held t (within .formed) (accepted-view schema query view legal asked stored) (stateOf record-of)
+        judged-held t (within .formed) (accepted-view schema query view legal asked stored) (stateOf (written t))
             (written-alike t within c) (in-dec (candidate t) (t .view) (first t)),
       )
 

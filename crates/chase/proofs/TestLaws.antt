@@ -1,31 +1,14 @@
--- What a composed test says of its parts.
+-- What a composed test says of its parts: the laws of records, and those that give both parts at once.
 use mathlib.Core.Bool.{Bool, true, false, So, cond, not, _&&_, _||_, false≢true}
 use mathlib.Core.Path.{_≡_, refl, sym}
-use mathlib.Core.Logic.{_⊎_, inl, inr}
-
-pub or-left : (a b : Bool) → So a → So (a || b)
-or-left true b h = refl
-or-left false b h = absurd (false≢true h)
-
-pub or-right : (a b : Bool) → So b → So (a || b)
-or-right true b h = refl
-or-right false b h = h
-
-pub or-cases : (a b : Bool) → So (a || b) → So a ⊎ So b
-or-cases true b h = inl refl
-or-cases false b h = inr h
+use Rattle.records.proofs.BoolLaws.{or-false-left, or-false-right, and-left, and-right}
+pub use Rattle.records.proofs.BoolLaws.{or-left, or-right, or-true-cases, and-both}
 
 pub or-false : (a b : Bool) → a || b ≡ false → (a ≡ false) × (b ≡ false)
-or-false true b h = absurd (false≢true (sym h))
-or-false false b h = (refl, h)
-
-pub and-both : (a b : Bool) → So a → So b → So (a && b)
-and-both true b h k = k
-and-both false b h k = absurd (false≢true h)
+or-false a b h = (or-false-left a b h, or-false-right a b h)
 
 pub and-parts : (a b : Bool) → So (a && b) → So a × So b
-and-parts true b h = (refl, h)
-and-parts false b h = absurd (false≢true h)
+and-parts a b h = (and-left a b h, and-right a b h)
 
 -- of a need that is not unmet
 pub met : (a b : Bool) → a && not b ≡ false → So a → So b

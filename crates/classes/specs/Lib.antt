@@ -1,3 +1,4 @@
 -- What the contracts cite beside the model.
 pub mod Asked
+pub mod Domains
 pub mod Sets

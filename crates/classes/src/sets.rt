@@ -1,4 +1,5 @@
 // A class set is a word in which each class has a place of its own, at most 24 of them.
+use records::schema::MAX_CLASSES;
 ghost use mathlib.Core.Path.{_≡_};
 ghost use Prim.Native.Nat.{_<_};
 ghost use Rattle.records.specs.Layout.{maxClasses};
@@ -6,7 +7,7 @@ ghost use Rattle.chase.specs.ClassSet.{place as placeOf, meets as meetsIn, has 
 ghost use Rattle.chase.specs.Axioms.{only as onlyIf};
 
 // The set of each class alone.
-const PLACES: [u32; 24] = [
+const PLACES: [u32; MAX_CLASSES] = [
     1,
     2,
     4,

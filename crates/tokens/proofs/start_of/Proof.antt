@@ -1,6 +1,5 @@
 -- What is still to be found is what was asked; with each token passed at most one item more is wanted.
 use Prim.Native.Nat.{suc, _+_, _≤_}
-use borrow.Author.Needs.{needs}
 use native.Mathlib.Omega.{arith}
 use mathlib.Core.Path.{_≡_, refl, sym, ap, _∙_}
 use Rattle.chase.specs.Tokens.{takes, startOf}

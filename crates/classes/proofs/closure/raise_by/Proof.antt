@@ -1,8 +1,9 @@
--- A case for each kind of axiom.
+-- A case for each kind of axiom; the domain of a necessary attribute is the table's.
 use mathlib.Core.Bool.{true, false}
 use mathlib.Core.Path.{subst, sym, _∙_}
 use Rattle.classes.proofs.SchemaLaws.{necessary-raises}
 use Rattle.classes.specs.Asked.{InRange}
+use native.Mathlib.Omega.{arith}
 use borrow.Author.Needs.{needs}
 use Rattle.classes.proofs.closure.raise_by.Statement.{statement}
 use Rattle.classes.proofs.closure.raise_by.Tie as tie
@@ -11,10 +12,10 @@ enum-known-rule : tie.Need-enum-known-rule
 enum-known-rule c = search needs
 
 has-requires : tie.Need-has-requires
-has-requires c κs = subst InRange (c .before .rule .given .1) (c .before .before .before .before .pre .1) .0
+has-requires c κs = subst InRange (c .before .rule .given .1) (c .before .before .before .pre) .0
 
 place-if-requires : tie.Need-place-if-requires
-place-if-requires c κs = subst InRange (c .before .before .rule .given .1) (c .before .before .before .before .before .pre .1) .1
+place-if-requires c κs = subst InRange (c .before .before .rule .given .1) (c .before .before .before .before .pre) .1
 
 enum-told : tie.Need-enum-told
 enum-told c = search needs
@@ -23,10 +24,13 @@ enum-known-rule-2 : tie.Need-enum-known-rule-2
 enum-known-rule-2 c = search needs
 
 has-requires-2 : tie.Need-has-requires-2
-has-requires-2 c κs = subst InRange (c .before .rule2 .given .1) (c .before .before .before .before .pre .1)
+has-requires-2 c κs = subst InRange (c .before .rule2 .given .1) (c .before .before .before .pre) .0
 
-domain-requires : tie.Need-domain-requires
-domain-requires c κs = c .before .before .before .before .before .before .pre .0
+mul-result : tie.Need-mul-result
+mul-result c = omega (arith, subst InRange (c .before .before .before .rule2 .given .1) (c .before .before .before .before .before .pre) .1)
+
+element-copy-out-result : tie.Need-element-copy-out-result
+element-copy-out-result c = subst InRange (c .before .before .before .rule2 .given .1) (c .before .before .before .before .before .pre) .1
 
 enum-told-2 : tie.Need-enum-told-2
 enum-told-2 c = search needs
@@ -35,25 +39,25 @@ enum-told-3 : tie.Need-enum-told-3
 enum-told-3 c = search needs
 
 returns : tie.Need-returns
-returns c = cc
+returns c = λ w d. cc
 
 returns-2 : tie.Need-returns-2
-returns-2 c = search needs
+returns-2 c = λ w d. search needs
 
 returns-3 : tie.Need-returns-3
-returns-3 c =
-    c .domain .ensures
+returns-3 c = λ w d.
+    d .sets _ (subst InRange (c .before .before .before .before .rule2 .given .1) (c .before .before .before .before .before .before .pre) .1)
     ∙ sym (necessary-raises _ _ _ _ _ true (c .before .before .before .before .rule2 .given .1) (sym (c .before .if1 .taken) ∙ c .before .before .has2 .ensures))
 
 returns-4 : tie.Need-returns-4
-returns-4 c =
+returns-4 c = λ w d.
     sym (necessary-raises _ _ _ _ _ false (c .before .before .before .rule2 .given .1) (sym (c .if1 .left) ∙ c .before .has2 .ensures))
 
 returns-5 : tie.Need-returns-5
-returns-5 c = search needs
+returns-5 c = λ w d. search needs
 
 returns-6 : tie.Need-returns-6
-returns-6 c = search needs
+returns-6 c = λ w d. search needs
 
 pub raise-by-spec : {M : Type 1} → statement M
 raise-by-spec =
@@ -65,7 +69,8 @@ raise-by-spec =
     enum-told
     enum-known-rule-2
     has-requires-2
-    domain-requires
+    mul-result
+    element-copy-out-result
     enum-told-2
     enum-told-3
     returns

@@ -21,7 +21,7 @@ enum-known-rule : tie.Need-enum-known-rule
 enum-known-rule c = search needs
 
 place-if-requires : tie.Need-place-if-requires
-place-if-requires c κs = subst InRange (c .before .rule .given .1) (c .before .before .before .pre) .0
+place-if-requires c κs = subst InRange (c .before .rule .given .1) (c .before .before .before .pre) .1
 
 returns : tie.Need-returns
 returns c = search needs

@@ -18,7 +18,7 @@ enum-known-rule : tie.Need-enum-known-rule
 enum-known-rule c = search needs
 
 place-if-requires : tie.Need-place-if-requires
-place-if-requires c κs = subst InRange (c .before .rule .given .1) (c .before .before .before .pre)
+place-if-requires c κs = subst InRange (c .before .rule .given .1) (c .before .before .before .pre) .0
 
 enum-told-4 : tie.Need-enum-told-4
 enum-told-4 c = search needs

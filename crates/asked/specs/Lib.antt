@@ -1,0 +1,4 @@
+-- What the code promises, and what the contracts of its parts cite.
+pub mod Listed
+pub mod Places
+pub mod Answer

@@ -1,0 +1,26 @@
+// The facts of an accepted query.
+use crate::items::concept;
+use crate::words::Kind;
+use crate::words::MAX_WORDS;
+use crate::words::Words;
+use records::concept::tokens;
+use records::layout::word;
+ghost use Rattle.records.specs.Layout.{querySteps};
+ghost use Rattle.records.specs.SchemaRecord.{signatureOf};
+ghost use Rattle.records.specs.Refusal.{AcceptedSchema, AcceptedConcept};
+ghost use Rattle.asked.specs.Answer.{Asked};
+
+// `schema` is the record whose names the query uses; the promises name it, and the code has no need of it.
+pub fn asked(schema: &[u16], query: &[u16], kind: Kind) -> Words
+    requires { ⌜ AcceptedSchema (now schema) ⌝ }
+    requires { ⌜ AcceptedConcept querySteps (signatureOf (now schema)) (now query) ⌝ }
+    ensures { λ r. ⌜ Asked (now (schema .entry)) (now (query .entry)) kind r ⌝ }
+{
+    // The steps' nodes come first: the start's number is how many there are.
+    let start = word(query, 1);
+    let none = Words {
+        count: 0,
+        words: [0; MAX_WORDS],
+    };
+    concept(query, kind, start + 1, tokens(query), start, none)
+}

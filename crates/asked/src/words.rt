@@ -1,0 +1,103 @@
+// A list of words with room for the facts of a query, and the three kinds of fact that it may hold. A fact of another kind
+// leaves it as it was.
+ghost use mathlib.Core.Path.{_≡_};
+ghost use Prim.Native.Nat.{_<_, _^_};
+ghost use Rattle.records.specs.Concept.{forward};
+ghost use Rattle.chase.specs.Facts.{member, equal, related};
+ghost use Rattle.primary.specs.Words.{part};
+ghost use Rattle.asked.specs.Listed.{Room, pushed, Grown, directionOf};
+
+// There are no more facts than tokens.
+pub const MAX_WORDS: usize = 64;
+
+// A part of a fact is below this.
+const PART: usize = 32;
+
+pub enum Kind {
+    Members,
+    Equations,
+    Edges,
+}
+
+pub struct Words {
+    pub count: usize,
+    pub words: [u16; MAX_WORDS],
+}
+
+fn narrow(x: usize) -> u16
+    requires { ⌜ x < 2 ^ 16 ⌝ }
+    ensures { λ r. ⌜ r ≡ x ⌝ }
+{
+    x as u16
+}
+
+impl Words {
+    fn push(mut self, word: usize) -> Words
+        requires { ⌜ Room self ⌝ }
+        requires { ⌜ word < 2 ^ 16 ⌝ }
+        ensures { λ r. ⌜ r ≡ pushed self word ⌝ }
+    {
+        let at = self.count;
+        self.words[at] = narrow(word);
+        self.count = at + 1;
+        self
+    }
+}
+
+// The node is in the class.
+pub fn add_member(kind: Kind, class: usize, node: usize, list: Words) -> Words
+    requires { ⌜ Room list ⌝ }
+    requires { ⌜ (class < part) × (node < part) ⌝ }
+    ensures { λ r. ⌜ Grown kind (member class node) 0 1 list r ⌝ }
+{
+    match kind {
+        Kind::Members => list.push(class * PART + node),
+        Kind::Equations => list,
+        Kind::Edges => list,
+    }
+}
+
+// The two nodes are one object.
+pub fn add_equation(kind: Kind, left: usize, right: usize, list: Words) -> Words
+    requires { ⌜ Room list ⌝ }
+    requires { ⌜ (left < part) × (right < part) ⌝ }
+    ensures { λ r. ⌜ Grown kind (equal left right) 0 1 list r ⌝ }
+{
+    match kind {
+        Kind::Members => list,
+        Kind::Equations => list.push(left * PART + right),
+        Kind::Edges => list,
+    }
+}
+
+// The two nodes are a pair of the attribute.
+fn add_pair(kind: Kind, attribute: usize, origin: usize, target: usize, list: Words) -> Words
+    requires { ⌜ Room list ⌝ }
+    requires { ⌜ (attribute < part) × (origin < part) × (target < part) ⌝ }
+    ensures { λ r. ⌜ Grown kind (related forward attribute origin target) 0 1 list r ⌝ }
+{
+    match kind {
+        Kind::Members => list,
+        Kind::Equations => list,
+        Kind::Edges => list.push((attribute * PART + origin) * PART + target),
+    }
+}
+
+// A step leads from the one node to the other.
+pub fn add_edge(
+    kind: Kind,
+    backward: bool,
+    attribute: usize,
+    from: usize,
+    to: usize,
+    list: Words,
+) -> Words
+    requires { ⌜ Room list ⌝ }
+    requires { ⌜ (attribute < part) × (from < part) × (to < part) ⌝ }
+    ensures { λ r. ⌜ Grown kind (related (directionOf backward) attribute from to) 0 1 list r ⌝ }
+{
+    if backward {
+        return add_pair(kind, attribute, to, from, list);
+    }
+    add_pair(kind, attribute, from, to, list)
+}

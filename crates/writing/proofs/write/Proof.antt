@@ -1,0 +1,69 @@
+-- The sizes are stored, and the rest is lent to be filled.
+use borrow.Author.Needs.{needs}
+use native.Mathlib.Omega.{arith}
+use mathlib.Core.Path.{sym, _∙_}
+use lib.Seq.{lt-length-set}
+use Rattle.records.specs.Layout.{lengthFor, stateLayout}
+use Rattle.chase.proofs.RecordLaws.{record-length}
+use Rattle.writing.proofs.WriteLaws.{sized-length, sized-room, write-all}
+use Rattle.writing.proofs.write.Statement.{statement}
+use Rattle.writing.proofs.write.Tie as tie
+
+narrow-requires : tie.Need-narrow-requires
+narrow-requires c κs = search needs
+
+slice-write-lent : tie.Need-slice-write-lent
+slice-write-lent c = search needs
+
+narrow-requires-2 : tie.Need-narrow-requires-2
+narrow-requires-2 c κs = search needs
+
+slice-write-lent-2 : tie.Need-slice-write-lent-2
+slice-write-lent-2 c = lt-length-set (c .before .before .before .before .args .lent .now) 0 _ (omega (arith, c .before .before .before .before .pre))
+
+sub-fill : tie.Need-sub-fill
+sub-fill c = omega (arith, c .before .before .before .before .pre, sized-length (c .before .before .before .before .args .lent .now) (c .before .narrow .result) (c .narrow2 .result))
+
+part-fill-start : tie.Need-part-fill-start
+part-fill-start c = omega (arith, c .before .before .before .before .pre, sized-length (c .before .before .before .before .args .lent .now) (c .before .narrow .result) (c .narrow2 .result))
+
+part-fill-end : tie.Need-part-fill-end
+part-fill-end c = search needs
+
+fill-requires : tie.Need-fill-requires
+fill-requires c κs = sized-room (c .before .before .before .before .before .args .lent .now) (c .before .before .narrow .result) (c .before .narrow2 .result) _ (c .before .before .before .before .before .pre .2)
+
+mul-result : tie.Need-mul-result
+mul-result c = search needs
+
+add-result : tie.Need-add-result
+add-result c = search needs
+
+same-length : tie.Need-same-length
+same-length c = c .before .lent .given .1 ∙ sized-length (c .before .before .before .before .before .before .before .before .args .lent .now) (c .before .before .before .before .before .narrow .result) (c .before .before .before .before .narrow2 .result)
+
+returns : tie.Need-returns
+unfolding lengthFor stateLayout
+returns c =
+    let a = c .before .before .before .before .before .before .before .before .args in (
+      sym (record-length (a .objects) (a .facts .now)),
+      write-all (a .objects) (a .facts .now) (a .lent .now) (c .before .before .before .before .before .narrow .result) (c .before .before .before .before .narrow2 .result) (c .before .before .fill .last .1 .0) (c .before .before .before .before .before .before .before .before .pre .2)
+          (c .before .before .before .before .before .narrow .ensures) (c .before .before .before .before .narrow2 .ensures) (c .before .before .fill .ensures),
+    )
+
+pub write-spec : {M : Type 1} → statement M
+write-spec =
+    tie.close
+    (tie.spec
+    narrow-requires
+    slice-write-lent
+    narrow-requires-2
+    slice-write-lent-2
+    sub-fill
+    part-fill-start
+    part-fill-end
+    fill-requires
+    mul-result
+    add-result
+    same-length
+    returns)

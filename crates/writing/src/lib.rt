@@ -1,0 +1,66 @@
+// Writes the record of a state from the list of its facts, each a number of two words (crate chase: Written). It changes the
+// lent words that the record takes, and no later ones.
+ghost use mathlib.Core.Path.{_≡_};
+ghost use mathlib.Core.List.{map, _++_};
+ghost use Prim.Native.Nat.{_+_, _*_, _<_, _≤_, _^_};
+ghost use lib.ListN.{length, drop};
+ghost use Rattle.chase.specs.Written.{leftWord, rightWord, stateRecord};
+ghost use Rattle.writing.specs.Half.{wordOf};
+
+// The two words of a fact.
+enum Half {
+    Left,
+    Right,
+}
+
+const WORD: u32 = 65_536;
+
+fn word_of(half: Half, fact: u32) -> u16
+    ensures { λ r. ⌜ r ≡ wordOf half fact ⌝ }
+{
+    match half {
+        Half::Left => (fact / WORD) as u16,
+        Half::Right => (fact % WORD) as u16,
+    }
+}
+
+fn narrow(x: usize) -> u16
+    requires { ⌜ x < 2 ^ 16 ⌝ }
+    ensures { λ r. ⌜ r ≡ x ⌝ }
+{
+    x as u16
+}
+
+// One word of each fact, at the start of the lent words.
+fn put(half: Half, facts: &[u32], to: &mut [u16])
+    requires { ⌜ length (now facts) ≤ length (now to) ⌝ }
+    ensures { λ _. ⌜ now (to .exit) ≡ map (wordOf half) (now (facts .entry)) ++ drop (length (now (facts .entry))) (now (to .entry)) ⌝ }
+{
+    let n = facts.len();
+    for i in 0..n {
+        to[i] = word_of(half, facts[i]);
+    }
+}
+
+// All left words, and the right words directly after the last of them.
+fn fill(facts: &[u32], to: &mut [u16])
+    requires { ⌜ 2 * length (now facts) ≤ length (now to) ⌝ }
+    ensures { λ _. ⌜ now (to .exit) ≡ map leftWord (now (facts .entry)) ++ map rightWord (now (facts .entry)) ++ drop (2 * length (now (facts .entry))) (now (to .entry)) ⌝ }
+{
+    put(Half::Left, facts, to);
+    let from = facts.len();
+    put(Half::Right, facts, &mut to[from..]);
+}
+
+// The sizes, then the words of the facts. The answer is how many words the record takes.
+pub fn write(objects: usize, facts: &[u32], lent: &mut [u16]) -> usize
+    requires { ⌜ (objects < 2 ^ 16) × (length (now facts) < 2 ^ 16) × (2 + 2 * length (now facts) ≤ length (now lent)) ⌝ }
+    ensures { λ r. ⌜ r ≡ length (stateRecord objects (now (facts .entry))) ⌝ }
+    ensures { λ r. ⌜ now (lent .exit) ≡ stateRecord objects (now (facts .entry)) ++ drop r (now (lent .entry)) ⌝ }
+{
+    let n = facts.len();
+    lent[0] = narrow(objects);
+    lent[1] = narrow(n);
+    fill(facts, &mut lent[2..]);
+    2 + 2 * n
+}
