@@ -85,7 +85,7 @@ module _ (s q : List ℕ) (legal : AcceptedSchema s) (sound : AcceptedConcept qu
       }
 
   -- the second size is the number of steps
-  start-is : {a : ℕ} → a ≡ getD q 1 0 → a ≡ conceptSteps (conceptOf q)
+  pub start-is : {a : ℕ} → a ≡ getD q 1 0 → a ≡ conceptSteps (conceptOf q)
   unfolding refusal-6 sizeAt
   start-is h =
       h ∙ sym (eqb-true (steps q) (getD q 1 0)

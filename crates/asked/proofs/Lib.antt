@@ -2,4 +2,4 @@
 mod GrownLaws
 mod PlaceLaws
 mod ItemLaws
-mod AskedLaws
+pub mod AskedLaws

@@ -189,13 +189,17 @@ mutual
         path-edges p f n k,
       )
 
+pub asked-edges : (t : Task) → length (asked t .edges) ≡ conceptSteps (t .query)
+unfolding asked
+asked-edges t = concept-edges (t .query) (suc (conceptSteps (t .query))) (conceptSteps (t .query)) zero
+
 pub candidate-pairs : (t : Task)
     → pairs (t .schema) (ground t) (forest t) ≤ t .schema .signature .attributes * candidate t .size + conceptSteps (t .query)
-unfolding ground groundOf asked
+unfolding ground groundOf
 candidate-pairs t =
     omega (
       arith,
       pairs-bound (t .schema) (ground t) (forest t),
       length-map (asked t .edges) (renumber (primary t)),
-      concept-edges (t .query) (suc (conceptSteps (t .query))) (conceptSteps (t .query)) zero,
+      asked-edges t,
     )

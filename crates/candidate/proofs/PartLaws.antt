@@ -1,0 +1,93 @@
+-- All facts in the three parts in which they are written, the members, the pairs and the names.
+use Prim.Native.Nat.{ℕ, _+_, _≤_}
+use native.Mathlib.Omega.{arith}
+use mathlib.Core.List.{List, [], _++_}
+use mathlib.Core.Path.{_≡_, refl, sym, ap, subst, _∙_}
+use lib.ListN.{length}
+use Rattle.records.specs.declared.schema.Signature.{Signature}
+use Rattle.records.specs.Layout.{maxClasses, maxAttributes, maxConstants, maxFacts}
+use Rattle.records.specs.Schema.{Schema}
+use Rattle.records.specs.SchemaRecord.{schemaOf}
+use Rattle.chase.specs.Ground.{Ground}
+use Rattle.chase.specs.Forest.{Forest}
+use Rattle.chase.specs.Written.{gather, objectFacts}
+use Rattle.classes.proofs.SchemaLaws.{classes-few}
+use Rattle.ground.specs.Objects.{groundIn, forestIn}
+use Rattle.forest.proofs.ObjectLaws.{size-laid}
+use Rattle.candidate.specs.Writing.{Room, Wrote}
+use Rattle.candidate.specs.Facts.{classRow, pairRow, nameFacts, factsIn}
+use Rattle.candidate.specs.Ready.{Ready}
+use Rattle.candidate.proofs.WriteLaws.{room-first, room-next, room-as, wrote-as, wrote-then}
+use Rattle.candidate.proofs.SearchLaws.{objects-bound}
+use Rattle.candidate.proofs.BoundLaws.{attributes-few, constants-few, facts-fit}
+use Rattle.candidate.proofs.AgreeLaws.{members-same}
+
+module _ (schema reps : List ℕ) (first : ℕ) (edges words : List ℕ) (g n total : ℕ) (ready : Ready schema reps first edges words g n total)
+    (s : Signature) (is : s ≡ schemaOf schema .signature) where
+  abbrev S : Schema
+  S = schemaOf schema
+
+  abbrev G : Ground
+  G = groundIn g words edges
+
+  abbrev T : Forest
+  T = forestIn g n words
+
+  abbrev members : List ℕ
+  members = gather (s .classes) (classRow (schemaOf schema) (groundIn g words []) (forestIn g n words) total)
+
+  abbrev pairs : List ℕ
+  pairs = gather (s .attributes) (pairRow (schemaOf schema) (groundIn g words edges) (forestIn g n words) total)
+
+  abbrev names : List ℕ
+  names = nameFacts reps first (s .constants)
+
+  parts : (members ++ pairs) ++ names ≡ factsIn schema reps first edges g n words
+  unfolding objectFacts
+  parts =
+      ap (λ (l : List ℕ). (l ++ pairs) ++ names) (members-same (groundIn g words []) G refl refl S T (s .classes) total)
+      ∙ ap
+      (λ (u : Signature).
+      (gather (u .classes) (classRow S G T total) ++ gather (u .attributes) (pairRow S G T total)) ++ nameFacts reps first (u .constants)) is
+      ∙ ap
+      (λ (m : ℕ).
+      (gather (S .signature .classes) (classRow S G T m) ++ gather (S .signature .attributes) (pairRow S G T m))
+      ++ nameFacts reps first (S .signature .constants)) (ready .number)
+
+  pub total-bound : total ≤ n + 1
+  total-bound = omega (arith, ready .number, objects-bound S G T, size-laid g n words (ready .kept .laid) words edges)
+
+  pub limits : (s .classes ≤ maxClasses) × (s .attributes ≤ maxAttributes) × (s .constants ≤ maxConstants)
+  limits =
+      subst (λ (u : Signature). (u .classes ≤ maxClasses) × (u .attributes ≤ maxAttributes) × (u .constants ≤ maxConstants)) (sym is)
+      (classes-few schema (ready .legal), attributes-few schema (ready .legal), constants-few schema (ready .legal))
+
+  pub nodes-inside : first + s .constants ≤ length reps
+  nodes-inside = subst (λ (u : Signature). first + u .constants ≤ length reps) (sym is) (ready .constants)
+
+  module _ (out : List ℕ) (size : length out ≡ maxFacts) where
+    room : Room 0 ((members ++ pairs) ++ names) out
+    room =
+        room-as 0 _ (factsIn schema reps first edges g n words) out parts
+        (record {
+          size = size;
+          fits = omega (arith, facts-fit schema reps edges words first g n (ready .legal) (ready .steps) (omega (arith, ready .number, ready .small)));
+        })
+
+    pub members-room : Room 0 members out
+    members-room = room-first 0 members pairs out (room-first 0 (members ++ pairs) names out room)
+
+    module _ (r : ℕ) (mid : List ℕ) (a : Wrote 0 members out r mid) where
+      pub pairs-room : Room r pairs mid
+      pairs-room = room-next 0 r members pairs out mid (room-first 0 (members ++ pairs) names out room) a
+
+      module _ (q : ℕ) (late : List ℕ) (b : Wrote r pairs mid q late) where
+        both : Wrote 0 (members ++ pairs) out q late
+        both = wrote-then 0 r q members pairs out mid late a b
+
+        pub names-room : Room q names late
+        names-room = room-next 0 q (members ++ pairs) names out late room both
+
+        pub all-wrote : (e : ℕ) (after : List ℕ) → Wrote q names late e after
+            → Wrote 0 (factsIn schema reps first edges g n words) out e after
+        all-wrote e after d = wrote-as 0 e _ _ out after parts (wrote-then 0 q e (members ++ pairs) names out late after both d)

@@ -1,0 +1,4 @@
+-- What the contracts cite beside the model.
+pub mod Writing
+pub mod Facts
+pub mod Ready

@@ -1,0 +1,161 @@
+-- The list of made objects: an object more at its end, and the list after a step, object by object.
+use Prim.Native.Nat.{ℕ, zero, suc, _+_, _-_, _≤_, _<_}
+use native.Mathlib.Omega.{arith}
+use native.Mathlib.Decide.{decLt, ℕ-discrete}
+use native.Mathlib.Numerals.{add-one}
+use mathlib.Core.Bool.{Bool, true, false, _&&_, false≢true}
+use mathlib.Core.List.{List, [], _∷_, _++_, append-nil}
+use mathlib.Core.Path.{_≡_, refl, sym, ap, ap₂, subst, _∙_}
+use lib.Dec.{eqb}
+use lib.ListN.{length, getD, set, take, length-set}
+use lib.Seq.{take-suc, take-suc-set, take-all, getD-take, getD-set-same, getD-set-other, length-take-le}
+use Rattle.records.specs.Concept.{Direction}
+use Rattle.chase.specs.Ground.{Ground}
+use Rattle.chase.specs.Forest.{Forest, bare, grow, size, kid, parent, push, hop, next}
+use Rattle.chase.proofs.TestLaws.{cond-elim}
+use Rattle.ground.specs.Objects.{attributeIn, forestIn, groundIn}
+use Rattle.forest.specs.declared.places.Here.{Here}
+use Rattle.forest.specs.Kept.{Kept}
+use Rattle.forest.specs.Places.{directionOf, maxPlaces, standing, Stands, Begins, Pushed, Hopped, Follows}
+use Rattle.forest.proofs.ObjectLaws.{size-laid, parent-made, parent-ground}
+
+-- an object comes to the end of the list, or none
+module _ (h : Here) (k : ℕ) (stands : Stands h) where
+  pub pushed-none : k ≡ 0 → Pushed h k h
+  pushed-none q =
+      record {
+        list = sym (ap (λ (i : ℕ). standing h ++ push i []) q ∙ append-nil (standing h));
+        stands = stands;
+        size = refl;
+        more = omega arith;
+      }
+
+  pub pushed-one : h .count < maxPlaces → k ≤ h .size → (k ≡ 0 → ⊥)
+      → (r : Here) → r .size ≡ h .size → r .count ≡ h .count + 1 → r .at ≡ set (h .at) (h .count) (k - 1)
+      → Pushed h k r
+  pushed-one few inside some r s c a =
+      let long : h .count < length (h .at) = omega (arith, stands .room) in
+      let q : suc (k - 1) ≡ k = omega arith in
+      record {
+        list =
+            ap₂ take c a ∙ ap (λ (i : ℕ). take i (set (h .at) (h .count) (k - 1))) (add-one (h .count))
+            ∙ take-suc-set (h .at) (h .count) (k - 1) long ∙ ap (λ (i : ℕ). standing h ++ push i []) q;
+        stands =
+            record {
+              room = ap length a ∙ length-set (h .at) (h .count) (k - 1) ∙ stands .room;
+              few = omega arith;
+              inside = λ i l.
+                  subst (λ (m : List ℕ). getD m i 0 < r .size) (sym a)
+                  (elim (ℕ-discrete i (h .count)) [
+                    | yes e ↦
+                        subst (λ (j : ℕ). getD (set (h .at) (h .count) (k - 1)) j 0 < r .size) (sym e)
+                        (omega (arith, getD-set-same (h .at) (h .count) (k - 1) 0 long))
+                    | no e ↦
+                        omega (arith, getD-set-other (h .at) (h .count) i (k - 1) 0 e, stands .inside i (omega arith))
+                  ]);
+            };
+        size = s;
+        more = omega arith;
+      }
+
+-- where a step leads is an object that is there
+kid-there : (G : Ground) (T : Forest) (P d : ℕ) → kid G T P d ≤ size G T
+unfolding kid size
+kid-there G bare P d = omega arith
+kid-there G (grow T m R c) P d =
+    cond-elim (λ v. v ≤ suc (size G T)) (eqb m d && eqb R P) (λ _. omega arith) (λ _. omega (arith, kid-there G T P d))
+
+module _ {g n : ℕ} {objects : List ℕ} (kept : Kept g n objects) (P d r : ℕ) (h : d < n) where
+  pub hopped-ahead : (ahead : Bool) → ahead ≡ true → ((edges : List ℕ) → r ≡ kid (groundIn g objects edges) (forestIn g n objects) P d)
+      → Hopped g n objects ahead P d r
+  hopped-ahead true q k =
+      record {
+        value = k;
+        inside = omega (arith, k [], kid-there (groundIn g objects []) (forestIn g n objects) P d, size-laid g n objects (kept .laid) objects []);
+      }
+  hopped-ahead false q k = absurd (false≢true q)
+
+  pub hopped-back : (ahead : Bool) → ahead ≡ false
+      → ((edges : List ℕ) → r ≡ parent (groundIn g objects edges) (forestIn g n objects) P d)
+      → Hopped g n objects ahead P d r
+  hopped-back true q k = absurd (false≢true (sym q))
+  hopped-back false q k =
+      record {
+        value = k;
+        inside =
+            elim (decLt d g) [
+              | yes y ↦ omega (arith, k [], parent-ground (groundIn g objects []) (forestIn g n objects) P d y)
+              | no z ↦
+                  cond-elim (λ v. r ≡ v → r ≤ n) (eqb (attributeIn (getD objects d 0)) P)
+                  (λ _ e. omega (arith, e, kept .makers d (omega arith) h)) (λ _ e. omega (arith, e))
+                  (k [] ∙ parent-made g n objects (kept .laid) objects [] P d (omega arith) h)
+            ];
+      }
+
+-- the list after a step, of the first i objects
+module _ (G : Ground) (T : Forest) (r : Direction) (P : ℕ) where
+  push-append : (k : ℕ) (l m : List ℕ) → push k l ++ m ≡ push k (l ++ m)
+  push-append zero l m = refl
+  push-append (suc e) l m = refl
+
+  next-append : (l m : List ℕ) → next G T r P (l ++ m) ≡ next G T r P l ++ next G T r P m
+  next-append [] m = refl
+  next-append (d ∷ l) m =
+      ap (push (hop G T r P d)) (next-append l m) ∙ sym (push-append (hop G T r P d) (next G T r P l) (next G T r P m))
+
+  pub next-more : (s : ℕ) (l : List ℕ) (i : ℕ) → i < length l
+      → next G T r P (s ∷ take (suc i) l) ≡ next G T r P (s ∷ take i l) ++ push (hop G T r P (getD l i 0)) []
+  next-more s l i h =
+      ap (λ (m : List ℕ). next G T r P (s ∷ m)) (take-suc l i 0 h) ∙ next-append (s ∷ take i l) (getD l i 0 ∷ [])
+
+module _ (g : ℕ) (objects : List ℕ) (ahead : Bool) (P s : ℕ) where
+  -- after the first i of the list
+  pub record After (n : ℕ) (l : List ℕ) (i : ℕ) (r : Here) : Type 0 where
+    pub list : (edges : List ℕ)
+        → standing r ≡ next (groundIn g objects edges) (forestIn g n objects) (directionOf ahead) P (s ∷ take i l)
+    pub stands : Stands r
+    pub size : r .size ≡ n
+    pub more : r .count ≤ i + 1
+
+  pub after-none : {n k : ℕ} {b r : Here} (l : List ℕ) → Begins n b → Hopped g n objects ahead P s k → Pushed b k r → After n l 0 r
+  after-none {n} {k} {b} {r} l begins hopped pushed =
+      record {
+        list = λ edges.
+            pushed .list ∙ ap (λ (m : List ℕ). m ++ push k []) (begins .list) ∙ ap (λ (i : ℕ). push i []) (hopped .value edges);
+        stands = pushed .stands;
+        size = pushed .size ∙ begins .size;
+        more = omega (arith, pushed .more, begins .count);
+      }
+
+  pub after-more : {h b r : Here} {k d : ℕ} (i : ℕ) → Stands h → i < h .count → d ≡ getD (h .at) i 0
+      → After (h .size) (standing h) i b → Hopped g (h .size) objects ahead P d k → Pushed b k r
+      → After (h .size) (standing h) (i + 1) r
+  after-more {h} {b} {r} {k} {d} i stands l e after hopped pushed =
+      let long : length (standing h) ≡ h .count
+      = length-take-le (h .count) (h .at) (omega (arith, stands .few, stands .room)) in
+      record {
+        list = λ edges.
+            let G = groundIn g objects edges in
+            let T = forestIn g (h .size) objects in
+            pushed .list ∙ ap₂ (λ (m : List ℕ) (j : ℕ). m ++ push j []) (after .list edges) (hopped .value edges)
+            ∙ ap (λ (j : ℕ). next G T (directionOf ahead) P (s ∷ take i (standing h)) ++ push (hop G T (directionOf ahead) P j) [])
+            (e ∙ sym (getD-take (h .count) (h .at) i 0 l))
+            ∙ rw add-one (sym (next-more G T (directionOf ahead) P s (standing h) i (omega (arith, long))));
+        stands = pushed .stands;
+        size = pushed .size ∙ after .size;
+        more = omega (arith, pushed .more, after .more);
+      }
+
+  pub after-all : {h r : Here} (i : ℕ) → Stands h → i ≤ h .count → h .count ≤ i
+      → After (h .size) (standing h) i r → Follows g objects ahead P s h r
+  after-all {h} {r} i stands a b after =
+      record {
+        list = λ edges.
+            after .list edges
+            ∙ ap (λ (m : List ℕ). next (groundIn g objects edges) (forestIn g (h .size) objects) (directionOf ahead) P (s ∷ m))
+            (take-all i (standing h)
+            (omega (arith, length-take-le (h .count) (h .at) (omega (arith, stands .few, stands .room)))));
+        stands = after .stands;
+        size = after .size;
+        more = omega (arith, after .more);
+      }

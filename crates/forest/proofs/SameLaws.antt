@@ -1,0 +1,156 @@
+-- The made part depends on the objects, the class sets and the edges of the ground alone. So a ground may take the place of
+-- another that has the same of these, whatever its constants and its start.
+use Prim.Native.Nat.{ℕ, zero, suc, _≤_, _<_, _^_}
+use native.Mathlib.Omega.{arith}
+use mathlib.Core.Bool.{Bool, cond, not, _&&_, _||_}
+use mathlib.Core.List.{List, [], _∷_, _++_, map}
+use mathlib.Core.Path.{_≡_, refl, ap, ap₂, _∙_}
+use lib.Dec.{eqb, ltb}
+use lib.ListN.{length, getD, take}
+use lib.Seq.{length-take-le, getD-take}
+use Rattle.records.specs.Finite.{any}
+use Rattle.records.specs.Layout.{maxObjects}
+use Rattle.records.specs.Schema.{Schema}
+use Rattle.records.specs.Concept.{Direction, forward, backward, Concept, class, everything, constant, both, reached, common, Path, empty, step}
+use Rattle.chase.specs.Loops.{anyOf, each, upto}
+use Rattle.chase.specs.ClassSet.{full}
+use Rattle.chase.specs.Axioms.{needs, image}
+use Rattle.chase.specs.Ground.{Ground, setAt, listing}
+use Rattle.chase.specs.Forest.{Forest, bare, grow, size, kid, parent, asks, push, hop, next, classesOf, lacks, make, makeFor, walk, trek, walks}
+use Rattle.chase.specs.Candidate.{links, lacking, objects}
+use Rattle.chase.specs.Targets.{sum, targets, pairs}
+use Rattle.chase.proofs.ListLaws.{getD-map}
+use Rattle.ground.specs.Agrees.{Agrees}
+use Rattle.ground.specs.Objects.{classesIn, groundIn}
+use Rattle.forest.specs.Kept.{Kept}
+
+module _ {G H : Ground} (same : Agrees G H) where
+  pub size-same : (T : Forest) → size G T ≡ size H T
+  unfolding size
+  size-same bare = same .objects
+  size-same (grow T d P c) = ap suc (size-same T)
+
+  pub kid-same : (T : Forest) (P d : ℕ) → kid G T P d ≡ kid H T P d
+  unfolding kid
+  kid-same bare P d = refl
+  kid-same (grow T m R c) P d = ap₂ (λ (n v : ℕ). cond (eqb m d && eqb R P) (suc n) v) (size-same T) (kid-same T P d)
+
+  pub parent-same : (T : Forest) (P e : ℕ) → parent G T P e ≡ parent H T P e
+  unfolding parent
+  parent-same bare P e = refl
+  parent-same (grow T m R c) P e = ap₂ (λ (n v : ℕ). cond (eqb e n) (cond (eqb R P) (suc m) zero) v) (size-same T) (parent-same T P e)
+
+  pub asks-same : (P d : ℕ) → asks G P d ≡ asks H P d
+  unfolding asks
+  asks-same P d = ap (anyOf (λ e. eqb (e .attribute) P && eqb (e .origin) d)) (same .edges)
+
+  hop-same : (T : Forest) (r : Direction) (P d : ℕ) → hop G T r P d ≡ hop H T r P d
+  hop-same T forward P d = kid-same T P d
+  hop-same T backward P d = parent-same T P d
+
+  next-same : (T : Forest) (r : Direction) (P : ℕ) (l : List ℕ) → next G T r P l ≡ next H T r P l
+  next-same T r P [] = refl
+  next-same T r P (d ∷ l) = ap₂ push (hop-same T r P d) (next-same T r P l)
+
+  pub links-same : (P d e : ℕ) → links G P d e ≡ links H P d e
+  unfolding links
+  links-same P d e = ap (anyOf (λ f. eqb (f .attribute) P && eqb (f .origin) d && eqb (f .target) e)) (same .edges)
+
+  module _ (S : Schema) where
+    pub classesOf-same : (T : Forest) (d : ℕ) → classesOf S G T d ≡ classesOf S H T d
+    unfolding classesOf
+    classesOf-same bare d =
+        ap₂ (λ (n : ℕ) (l : List ℕ). cond (ltb d n) (getD l d 0) (full (S .signature .classes))) (same .objects) (same .sets)
+    classesOf-same (grow T m R c) d = ap₂ (λ (n v : ℕ). cond (eqb d n) c v) (size-same T) (classesOf-same T d)
+
+    pub lacks-same : (T : Forest) (P d : ℕ) → lacks S G T P d ≡ lacks S H T P d
+    unfolding lacks
+    lacks-same T P d =
+        ap₂ (λ (c v : ℕ). needs S c P && not (asks G P d || ltb 0 v)) (classesOf-same T d) (kid-same T P d)
+        ∙ ap (λ (b : Bool). needs S (classesOf S H T d) P && not (b || ltb 0 (kid H T P d))) (asks-same P d)
+
+    pub make-same : (P d : ℕ) (T : Forest) → make S G P d T ≡ make S H P d T
+    unfolding make
+    make-same P d T = ap₂ (λ (b : Bool) (c : ℕ). cond b (grow T d P (image S c P)) T) (lacks-same T P d) (classesOf-same T d)
+
+    makeFor-same : (r : Direction) (P : ℕ) (l : List ℕ) (T : Forest) → makeFor S G r P l T ≡ makeFor S H r P l T
+    unfolding makeFor
+    makeFor-same forward P l T = ap (λ (f : ℕ → Forest → Forest). each f l T) (λ i d U. make-same P d U i)
+    makeFor-same backward P l T = refl
+
+    mutual
+      pub walk-same : (C : Concept) (s : ℕ) (l : List ℕ) (T : Forest) → walk S G C s l T ≡ walk S H C s l T
+      walk-same (class A) s l T = refl
+      walk-same everything s l T = refl
+      walk-same (constant a) s l T = refl
+      walk-same (both C D) s l T = walk-same D s l (walk S G C s l T) ∙ ap (walk S H D s l) (walk-same C s l T)
+      walk-same (reached p) s l T = ap (λ (x : Forest × List ℕ). x .0) (trek-same p s l T)
+      walk-same (common p q) s l T =
+          ap (λ (x : Forest × List ℕ). x .0) (trek-same q s l (trek S G p s l T .0))
+          ∙ ap (λ (x : Forest × List ℕ). trek S H q s l (x .0) .0) (trek-same p s l T)
+
+      pub trek-same : (p : Path) (s : ℕ) (l : List ℕ) (T : Forest) → trek S G p s l T ≡ trek S H p s l T
+      trek-same empty s l T = refl
+      trek-same (step p r P C) s l T =
+          let x = trek S G p s l T in
+          let U = makeFor S G r P (s ∷ x .1) (x .0) in
+          ap₂ {C = Forest × List ℕ} (λ (A : Forest) (m : List ℕ). (A, m)) (walk-same C s (next G U r P (s ∷ x .1)) U) refl
+          ∙ ap (λ (m : List ℕ). (walk S H C s m U, m)) (next-same U r P (s ∷ x .1))
+          ∙ ap (λ (W : Forest). let m = next H W r P (s ∷ x .1) in (walk S H C s m W, m)) (makeFor-same r P (s ∷ x .1) (x .0))
+          ∙ ap
+          (λ (y : Forest × List ℕ). let W = makeFor S H r P (s ∷ y .1) (y .0) in
+          let m = next H W r P (s ∷ y .1) in
+          (walk S H C s m W, m))
+          (trek-same p s l T)
+
+    pub walks-same : (C : Concept) → walks S G C ≡ walks S H C
+    unfolding walks
+    walks-same C =
+        ap₂ (λ (f : ℕ → Forest → Forest) (n : ℕ). upto f n bare) (λ i s T. walk-same C s [] T i) (same .objects)
+
+    pub lacking-same : (T : Forest) → lacking S G T ≡ lacking S H T
+    unfolding lacking
+    lacking-same T = ap₂ any (size-same T) (λ i d. any (S .signature .attributes) (λ P. lacks-same T P d i))
+
+    pub objects-same : (T : Forest) → objects S G T ≡ objects S H T
+    unfolding objects
+    objects-same T = ap₂ (λ (b : Bool) (n : ℕ). cond b (suc n) n) (lacking-same T) (size-same T)
+
+    pub targets-same : (T : Forest) (P d : ℕ) → targets S G T P d ≡ targets S H T P d
+    unfolding targets
+    targets-same T P d =
+        ap₂ _++_ (ap₂ (λ (f : ℕ → Bool) (n : ℕ). listing f (λ e. e) n) (λ i e. links-same P d e i) (same .objects))
+        (ap₂ push (kid-same T P d) (ap₂ (λ (b : Bool) (n : ℕ). cond b (n ∷ []) []) (lacks-same T P d) (size-same T)))
+
+    pub pairs-same : (T : Forest) → pairs S G T ≡ pairs S H T
+    unfolding pairs
+    pairs-same T =
+        ap₂ (λ (n : ℕ) (f : ℕ → ℕ → ℕ). sum (S .signature .attributes) (λ P. sum n (f P))) (objects-same T)
+        (λ i P d. length (targets-same T P d i))
+
+-- the ground of the array, where it is another's
+module _ (g : ℕ) (objects edges : List ℕ) (G : Ground) (same : Agrees (groundIn g objects edges) G) where
+  -- .. also after the made objects have come
+  pub same-after : (after : List ℕ) → take g after ≡ take g objects → Agrees (groundIn g after edges) G
+  same-after after e =
+      record {
+        objects = same .objects;
+        sets = ap (map classesIn) e ∙ same .sets;
+        edges = same .edges;
+      }
+
+  -- before them: class sets of 32 bits are all that is asked
+  pub kept-same : length objects ≡ maxObjects → g ≤ maxObjects → ((d : ℕ) → d < g → setAt G d < 2 ^ 32) → Kept g g objects
+  kept-same room few small =
+      record {
+        laid = record { room = room; ground = omega arith; fits = few };
+        sets = λ d h.
+            omega (
+              arith,
+              getD-map classesIn (take g objects) d (omega (arith, length-take-le g objects (omega arith))),
+              ap classesIn (getD-take g objects d 0 h),
+              ap (λ (l : List ℕ). getD l d 0) (same .sets),
+              small d h,
+            );
+        makers = λ e a b. absurd (omega arith);
+      }

@@ -1,0 +1,402 @@
+-- The walk of the view's tokens is the model's walk. For each token: its operands may be walked, since the whole has room
+-- and nothing is taken back, and what they leave makes what the whole leaves.
+use Prim.Native.Nat.{ℕ, suc, _+_, _-_, _≤_, _<_, _^_}
+use native.Mathlib.Omega.{arith}
+use mathlib.Core.Bool.{Bool, true, false}
+use mathlib.Core.List.{List, _∷_}
+use mathlib.Core.Path.{_≡_, refl, sym, ap, ap₂, subst, _∙_}
+use lib.ListN.{length}
+use types.Run.{OneOf}
+use denote.Enum.Declared.{tagOf}
+use Rattle.records.proofs.concept.Token.{the-type}
+use Rattle.records.specs.declared.concept.Token.the-variants.{Both, Reached, Common}
+use Rattle.records.specs.Concept.{Concept, class, everything, constant, both, reached, common, Path, empty, step}
+use Rattle.records.specs.Layout.{viewSteps, maxAttributes, maxObjects}
+use Rattle.records.specs.Schema.{Schema}
+use Rattle.records.specs.SchemaRecord.{schemaOf}
+use Rattle.records.specs.ConceptRecord.{tokenAt}
+use Rattle.chase.specs.Ground.{Ground}
+use Rattle.chase.specs.Steps.{conceptSteps, pathSteps}
+use Rattle.chase.specs.Forest.{Forest, size, walk, trek, makeFor, next}
+use Rattle.chase.specs.Tokens.{startOf, conceptAt, pathAt}
+use Rattle.chase.proofs.PileLaws.{start-le}
+use Rattle.chase.proofs.SizeLaws.{trek-size}
+use Rattle.chase.proofs.TokenLaws.{Reads, ReadsStep, concept-reads, path-reads}
+use Rattle.ground.specs.Objects.{forestIn, groundIn}
+use Rattle.forest.specs.declared.places.Here.{Here}
+use Rattle.forest.specs.Kept.{Kept, Grows}
+use Rattle.forest.specs.Places.{directionOf, maxPlaces, standing, Stands, Follows, madeFor}
+use Rattle.forest.specs.Making.{CanMakeFor}
+use Rattle.forest.specs.Walking.{stepToken, Walking, walked, trekked, CanWalk, CanTrek, Walked, Trekked}
+use Rattle.forest.proofs.ObjectLaws.{ground-kept}
+use Rattle.forest.proofs.GrowLaws.{grows-then, grows-self, makeFor-more, listed}
+use Rattle.forest.proofs.ViewLaws.{concept-after, path-after, view-short, step-attribute, left-of-concept, left-of-path, leaf-walk, leaf-trek}
+
+-- nothing is taken back
+module _ (S : Schema) (G : Ground) where
+  mutual
+    pub walk-more : (C : Concept) (s : ℕ) (l : List ℕ) (T : Forest) → size G T ≤ size G (walk S G C s l T)
+    walk-more (class A) s l T = omega arith
+    walk-more everything s l T = omega arith
+    walk-more (constant a) s l T = omega arith
+    walk-more (both C D) s l T = omega (arith, walk-more C s l T, walk-more D s l (walk S G C s l T))
+    walk-more (reached p) s l T = trek-more p s l T
+    walk-more (common p q) s l T = omega (arith, trek-more p s l T, trek-more q s l (trek S G p s l T .0))
+
+    trek-more : (p : Path) (s : ℕ) (l : List ℕ) (T : Forest) → size G T ≤ size G (trek S G p s l T .0)
+    trek-more empty s l T = omega arith
+    trek-more (step p r P C) s l T =
+        let A = trek S G p s l T .0 in
+        let m = trek S G p s l T .1 in
+        let U = makeFor S G r P (s ∷ m) A in
+        omega (arith, trek-more p s l T, makeFor-more S G r P (s ∷ m) A, walk-more C s (next G U r P (s ∷ m)) U)
+
+-- the same list among more objects
+abbrev pub grown : Here → ℕ → Here
+grown h n = record { size = n; count = h .count; at = h .at }
+
+pub stands-grown : {h : Here} {n : ℕ} → Stands h → h .size ≤ n → Stands (grown h n)
+stands-grown s m =
+    record { room = s .room; few = s .few; inside = λ i k. omega (arith, s .inside i k) }
+
+module _ {schema view objects : List ℕ} {g s : ℕ} {h : Here} where
+  -- at an earlier place
+  earlier : {e : ℕ} → Walking schema view objects g s e h → (d : ℕ) → d ≤ e → Walking schema view objects g s d h
+  earlier w d l =
+      record {
+        legal = w .legal;
+        sound = w .sound;
+        within = omega (arith, w .within);
+        kept = w .kept;
+        start = w .start;
+        stands = w .stands;
+      }
+
+  -- among the objects after a change, with another list
+  later : {e n : ℕ} {after : List ℕ} {T : Forest} → Walking schema view objects g s e h → Grows g (h .size) n objects after T
+      → (q : Here) → q .size ≡ n → Stands q
+      → Walking schema view after g s e q
+  later {n = n} {after = after} w x q eq stands =
+      record {
+        legal = w .legal;
+        sound = w .sound;
+        within = w .within;
+        kept = subst (λ (k : ℕ). Kept g k after) (sym eq) (x .kept);
+        start = omega (arith, w .start, x .more);
+        stands = stands;
+      }
+
+-- the ground, and so the size of a forest, after a change
+pub same-size : {g n m : ℕ} {a b : List ℕ} {U : Forest} (edges : List ℕ) (f : Ground → Forest → Forest) → Grows g n m a b U
+    → size (groundIn g b edges) (f (groundIn g b edges) (forestIn g m b)) ≡ size (groundIn g a edges) (f (groundIn g a edges) U)
+same-size {g} {n} {m} {a} {b} edges f x = ap₂ (λ (H : Ground) (T : Forest). size H (f H T)) (ground-kept g b a edges (x .ground)) (x .value)
+
+module _ {schema view edges objects : List ℕ} {g s at : ℕ} {h : Here} (can : CanWalk schema view edges objects g s (suc at) h) where
+  -- the walk of what the token says
+  of : (C : Concept) → conceptAt view (suc at) ≡ C
+      → (size (groundIn g objects edges) (walked schema edges objects g s h C) ≤ maxObjects) × (h .count + conceptSteps C ≤ viewSteps)
+  of C q = (
+    subst (λ (D : Concept). size (groundIn g objects edges) (walked schema edges objects g s h D) ≤ maxObjects) q (can .fits),
+    subst (λ (D : Concept). h .count + conceptSteps D ≤ viewSteps) q (can .places),
+  )
+
+  -- both
+  module _ (is : tokenAt view at ≡ Both) where
+    reads : Reads view at Both
+    reads = concept-reads view at Both (can .item) is
+
+    pub both-first : CanWalk schema view edges objects g s (startOf view at 1) h
+    both-first =
+        let o = of (both (conceptAt view (startOf view at 1)) (conceptAt view at)) (reads .0) in
+        record {
+          walking = earlier (can .walking) (startOf view at 1) (omega (arith, start-le view at 1));
+          item = reads .3;
+          fits =
+              omega (
+                arith,
+                o .0,
+                walk-more (schemaOf schema) (groundIn g objects edges) (conceptAt view at) s (standing h)
+                    (walked schema edges objects g s h (conceptAt view (startOf view at 1))),
+              );
+          places = omega (arith, o .1);
+        }
+
+    module _ {n : ℕ} {after : List ℕ} (x : Walked schema view edges objects g s (startOf view at 1) h after n) where
+      pub both-last : CanWalk schema view edges after g s at (grown h n)
+      both-last =
+          let o = of (both (conceptAt view (startOf view at 1)) (conceptAt view at)) (reads .0) in
+          record {
+            walking = earlier (later (can .walking) x (grown h n) refl (stands-grown (can .walking .stands) (x .more))) at (omega arith);
+            item = reads .2;
+            fits = omega (arith, o .0, same-size edges (λ H U. walk (schemaOf schema) H (conceptAt view at) s (standing h) U) x);
+            places = omega (arith, o .1);
+          }
+
+      pub both-walked : {r : ℕ} {last : List ℕ} → Walked schema view edges after g s at (grown h n) last r
+          → Walked schema view edges objects g s (suc at) h last r
+      both-walked {r} {last} y =
+          subst (λ (C : Concept). Grows g (h .size) r objects last (walked schema edges objects g s h C)) (sym (reads .0))
+          (grows-then edges (λ H U. walk (schemaOf schema) H (conceptAt view at) s (standing h) U) x y)
+
+  -- reached
+  module _ (is : tokenAt view at ≡ Reached) where
+    reads-path : Reads view at Reached
+    reads-path = concept-reads view at Reached (can .item) is
+
+    pub reached-path : CanTrek schema view edges objects g s at h
+    reached-path =
+        let o = of (reached (pathAt view at)) (reads-path .0) in
+        record {
+          walking = earlier (can .walking) at (omega arith);
+          item = reads-path .2;
+          fits = o .0;
+          places = o .1;
+        }
+
+    pub reached-walked : {r : Here} {after : List ℕ} → Trekked schema view edges objects g s at h after r
+        → Walked schema view edges objects g s (suc at) h after (r .size)
+    reached-walked {r} {after} y =
+        subst (λ (C : Concept). Grows g (h .size) (r .size) objects after (walked schema edges objects g s h C)) (sym (reads-path .0)) (y .grows)
+
+  -- a common object
+  module _ (is : tokenAt view at ≡ Common) where
+    reads-paths : Reads view at Common
+    reads-paths = concept-reads view at Common (can .item) is
+
+    pub common-first : CanTrek schema view edges objects g s (startOf view at 1) h
+    common-first =
+        let o = of (common (pathAt view (startOf view at 1)) (pathAt view at)) (reads-paths .0) in
+        record {
+          walking = earlier (can .walking) (startOf view at 1) (omega (arith, start-le view at 1));
+          item = reads-paths .3;
+          fits =
+              omega (
+                arith,
+                o .0,
+                trek-more (schemaOf schema) (groundIn g objects edges) (pathAt view at) s (standing h)
+                    (trekked schema edges objects g s h (pathAt view (startOf view at 1)) .0),
+              );
+          places = omega (arith, o .1);
+        }
+
+    module _ {q : Here} {after : List ℕ} (x : Trekked schema view edges objects g s (startOf view at 1) h after q) where
+      pub common-last : CanTrek schema view edges after g s at (grown h (q .size))
+      common-last =
+          let o = of (common (pathAt view (startOf view at 1)) (pathAt view at)) (reads-paths .0) in
+          record {
+            walking =
+                earlier (later (can .walking) (x .grows) (grown h (q .size)) refl (stands-grown (can .walking .stands) (x .grows .more)))
+                at (omega arith);
+            item = reads-paths .2;
+            fits = omega (arith, o .0, same-size edges (λ H U. trek (schemaOf schema) H (pathAt view at) s (standing h) U .0) (x .grows));
+            places = omega (arith, o .1);
+          }
+
+      pub common-walked : {r : Here} {last : List ℕ} → Trekked schema view edges after g s at (grown h (q .size)) last r
+          → Walked schema view edges objects g s (suc at) h last (r .size)
+      common-walked {r} {last} y =
+          subst (λ (C : Concept). Grows g (h .size) (r .size) objects last (walked schema edges objects g s h C)) (sym (reads-paths .0))
+          (grows-then edges (λ H U. trek (schemaOf schema) H (pathAt view at) s (standing h) U .0) (x .grows) (y .grows))
+
+-- A step: the path before it, the values that it asks for, the list after it, and the concept on which it lands.
+module _ {schema view edges objects : List ℕ} {g s at : ℕ} {h : Here} (can : CanTrek schema view edges objects g s (suc at) h)
+    (P : ℕ) (ahead : Bool) (is : tokenAt view at ≡ stepToken ahead P) where
+  reads-step : ReadsStep view at (directionOf ahead) P
+  reads-step = go ahead is
+    where
+      go : (b : Bool) → tokenAt view at ≡ stepToken b P → ReadsStep view at (directionOf b) P
+      go true q = path-reads view at (stepToken true P) (can .item) q
+      go false q = path-reads view at (stepToken false P) (can .item) q
+
+  abbrev first : Path
+  first = pathAt view (startOf view at 1)
+
+  abbrev landing : Concept
+  landing = conceptAt view at
+
+  -- the model's forest with the values made, and its list after the step
+  abbrev valued : Forest
+  valued =
+      makeFor (schemaOf schema) (groundIn g objects edges) (directionOf ahead) P
+      (s ∷ trekked schema edges objects g s h first .1)
+      (trekked schema edges objects g s h first .0)
+
+  abbrev landed : List ℕ
+  landed = next (groundIn g objects edges) valued (directionOf ahead) P (s ∷ trekked schema edges objects g s h first .1)
+
+  step-is : trekked schema edges objects g s h (pathAt view (suc at))
+      ≡ (walk (schemaOf schema) (groundIn g objects edges) landing s landed valued, landed)
+  step-is = ap (trekked schema edges objects g s h) (reads-step .0)
+
+  fits : size (groundIn g objects edges) (walk (schemaOf schema) (groundIn g objects edges) landing s landed valued) ≤ maxObjects
+  fits = subst (λ (x : Forest × List ℕ). size (groundIn g objects edges) (x .0) ≤ maxObjects) step-is (can .fits)
+
+  fits-valued : size (groundIn g objects edges) valued ≤ maxObjects
+  fits-valued = omega (arith, fits, walk-more (schemaOf schema) (groundIn g objects edges) landing s landed valued)
+
+  places : h .count + suc (pathSteps first + conceptSteps landing) ≤ viewSteps
+  places = subst (λ (p : Path). h .count + pathSteps p ≤ viewSteps) (reads-step .0) (can .places)
+
+  pub step-path : CanTrek schema view edges objects g s (startOf view at 1) h
+  step-path =
+      record {
+        walking = earlier (can .walking) (startOf view at 1) (omega (arith, start-le view at 1));
+        item = reads-step .3;
+        fits =
+            omega (
+              arith,
+              fits-valued,
+              makeFor-more (schemaOf schema) (groundIn g objects edges) (directionOf ahead) P
+                  (s ∷ trekked schema edges objects g s h first .1)
+                  (trekked schema edges objects g s h first .0),
+            );
+        places = omega (arith, places);
+      }
+
+  attribute : P < maxAttributes
+  attribute = step-attribute schema view (can .walking .sound) (can .walking .legal) at P ahead (omega (arith, can .walking .within)) is
+
+  -- after the path
+  module _ {q : Here} {a : List ℕ} (x : Trekked schema view edges objects g s (startOf view at 1) h a q) where
+    -- its list is short
+    short : q .count ≤ h .count + pathSteps first
+    short =
+        omega (
+          arith,
+          listed (x .stands),
+          ap length (x .list),
+          listed (can .walking .stands),
+          trek-size (schemaOf schema) (groundIn g objects edges) first s (standing h) (forestIn g (h .size) objects) (h .count)
+              (omega (arith, listed (can .walking .stands))) .1,
+        )
+
+    pub step-make : CanMakeFor schema edges a g ahead P s q
+    step-make =
+        record {
+          legal = can .walking .legal;
+          kept = x .grows .kept;
+          attribute = attribute;
+          start = omega (arith, can .walking .start, x .grows .more);
+          stands = x .stands;
+          fits =
+              omega (
+                arith,
+                fits-valued,
+                same-size edges (λ H U. makeFor (schemaOf schema) H (directionOf ahead) P (s ∷ standing q) U) (x .grows),
+                ap
+                    (λ (l : List ℕ). size (groundIn g objects edges)
+                    (makeFor (schemaOf schema) (groundIn g objects edges) (directionOf ahead) P (s ∷ l)
+                    (trekked schema edges objects g s h first .0))) (x .list),
+              );
+        }
+
+    -- after the values were made
+    module _ {n : ℕ} {b : List ℕ} (made : Grows g (q .size) n a b (madeFor schema edges a g ahead P s q)) where
+      sofar : Grows g (h .size) n objects b valued
+      sofar =
+          subst
+          (λ (l : List ℕ). Grows g (h .size) n objects b
+          (makeFor (schemaOf schema) (groundIn g objects edges) (directionOf ahead) P (s ∷ l)
+          (trekked schema edges objects g s h first .0))) (x .list)
+          (grows-then edges (λ H U. makeFor (schemaOf schema) H (directionOf ahead) P (s ∷ standing q) U) (x .grows) made)
+
+      pub step-next : Kept g n b × (P < maxAttributes) × (s < n) × Stands (grown q n) × (q .count < maxPlaces)
+      step-next = (
+        made .kept,
+        attribute,
+        omega (arith, can .walking .start, sofar .more),
+        stands-grown (x .stands) (made .more),
+        omega (arith, short, places),
+      )
+
+      -- after the list was made
+      module _ {w : Here} (f : Follows g b ahead P s (grown q n) w) where
+        list-is : standing w ≡ landed
+        list-is =
+            f .list edges
+            ∙ ap₂ (λ (H : Ground) (U : Forest). next H U (directionOf ahead) P (s ∷ standing q))
+            (ground-kept g b objects edges (sofar .ground)) (sofar .value)
+            ∙ ap (λ (l : List ℕ). next (groundIn g objects edges) valued (directionOf ahead) P (s ∷ l)) (x .list)
+
+        landing-is : walked schema edges b g s w landing
+            ≡ walk (schemaOf schema) (groundIn g b edges) landing s landed (forestIn g n b)
+        landing-is =
+            ap₂ (λ (l : List ℕ) (k : ℕ). walk (schemaOf schema) (groundIn g b edges) landing s l (forestIn g k b)) list-is (f .size)
+
+        pub step-walk : CanWalk schema view edges b g s at w
+        step-walk =
+            record {
+              walking = earlier (later (can .walking) sofar w (f .size) (f .stands)) at (omega arith);
+              item = reads-step .2;
+              fits =
+                  omega (
+                    arith,
+                    ap (size (groundIn g b edges)) landing-is,
+                    same-size edges (λ H U. walk (schemaOf schema) H landing s landed U) sofar,
+                    fits,
+                  );
+              places = omega (arith, f .more, short, places);
+            }
+
+        pub step-trekked : {r : ℕ} {last : List ℕ} → Walked schema view edges b g s at w last r
+            → Trekked schema view edges objects g s (suc at) h last (grown w r)
+        step-trekked {r} {last} y =
+            let z : Grows g n r b last (walk (schemaOf schema) (groundIn g b edges) landing s landed (forestIn g n b))
+            = subst (Grows g n r b last) landing-is (subst (λ (k : ℕ). Grows g k r b last (walked schema edges b g s w landing)) (f .size) y) in
+            record {
+              grows =
+                  subst (λ (t : Forest × List ℕ). Grows g (h .size) r objects last (t .0)) (sym step-is)
+                  (grows-then edges (λ H U. walk (schemaOf schema) H landing s landed U) sofar z);
+              list = list-is ∙ sym (ap (λ (t : Forest × List ℕ). t .1) step-is);
+              stands = stands-grown (f .stands) (y .more);
+            }
+
+-- The token before the end of an item.
+module _ {schema view edges objects : List ℕ} {g s e : ℕ} {h : Here} where
+  module _ (can : CanWalk schema view edges objects g s e h) where
+    pub walk-after : e ≡ suc (e - 1)
+    walk-after = concept-after view e (can .item)
+
+    pub walk-short : e < 2 ^ 16
+    walk-short = view-short schema view (can .walking .sound) e (can .walking .within)
+
+    pub walk-from : CanWalk schema view edges objects g s (suc (e - 1)) h
+    walk-from = subst (λ (d : ℕ). CanWalk schema view edges objects g s d h) walk-after can
+
+    pub walk-to : {r : ℕ} {after : List ℕ} → Walked schema view edges objects g s (suc (e - 1)) h after r
+        → Walked schema view edges objects g s e h after r
+    walk-to {r} {after} y = subst (λ (d : ℕ). Walked schema view edges objects g s d h after r) (sym walk-after) y
+
+    pub walk-leaf : OneOf left-of-concept (tagOf the-type (tokenAt view (e - 1))) → Walked schema view edges objects g s e h objects (h .size)
+    walk-leaf k =
+        walk-to
+        (grows-self (can .walking .kept)
+        (sym
+        (leaf-walk (schemaOf schema) (groundIn g objects edges) view (e - 1) s (standing h) (forestIn g (h .size) objects)
+        (tokenAt view (e - 1)) k (concept-reads view (e - 1) (tokenAt view (e - 1)) (walk-from .item) refl))))
+
+  module _ (can : CanTrek schema view edges objects g s e h) where
+    pub trek-after : e ≡ suc (e - 1)
+    trek-after = path-after view e (can .item)
+
+    pub trek-short : e < 2 ^ 16
+    trek-short = view-short schema view (can .walking .sound) e (can .walking .within)
+
+    pub trek-from : CanTrek schema view edges objects g s (suc (e - 1)) h
+    trek-from = subst (λ (d : ℕ). CanTrek schema view edges objects g s d h) trek-after can
+
+    pub trek-to : {r : Here} {after : List ℕ} → Trekked schema view edges objects g s (suc (e - 1)) h after r
+        → Trekked schema view edges objects g s e h after r
+    trek-to {r} {after} y = subst (λ (d : ℕ). Trekked schema view edges objects g s d h after r) (sym trek-after) y
+
+    pub trek-leaf : OneOf left-of-path (tagOf the-type (tokenAt view (e - 1))) → Trekked schema view edges objects g s e h objects h
+    trek-leaf k =
+        let q
+        = leaf-trek (schemaOf schema) (groundIn g objects edges) view (e - 1) s (standing h) (forestIn g (h .size) objects)
+        (tokenAt view (e - 1)) k (path-reads view (e - 1) (tokenAt view (e - 1)) (trek-from .item) refl) in
+        trek-to
+        (record {
+          grows = grows-self (can .walking .kept) (sym (ap (λ (x : Forest × List ℕ). x .0) q));
+          list = sym (ap (λ (x : Forest × List ℕ). x .1) q);
+          stands = can .walking .stands;
+        })

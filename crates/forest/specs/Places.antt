@@ -1,0 +1,61 @@
+-- Where the walk stands (src/places.rt): the made objects at the present place of the view, and what a step makes of them.
+use Prim.Native.Nat.{ℕ, _+_, _≤_, _<_}
+use mathlib.Core.Bool.{Bool, true, false}
+use mathlib.Core.List.{List, [], _∷_, _++_}
+use mathlib.Core.Path.{_≡_}
+use lib.ListN.{length, getD, take}
+use Rattle.records.specs.Concept.{Direction, forward, backward}
+use Rattle.records.specs.Layout.{viewSteps}
+use Rattle.records.specs.SchemaRecord.{schemaOf}
+use Rattle.chase.specs.Forest.{Forest, push, hop, next, makeFor}
+use Rattle.ground.specs.Objects.{forestIn, groundIn}
+use Rattle.forest.specs.declared.places.Here.{Here}
+
+abbrev pub directionOf : Bool → Direction
+directionOf true = forward
+directionOf false = backward
+
+abbrev pub maxPlaces : ℕ
+maxPlaces = viewSteps
+
+-- the list of the made objects
+abbrev pub standing : Here → List ℕ
+standing h = take (h .count) (h .at)
+
+-- the objects on the list are there
+pub record Stands (h : Here) : Type 0 where
+  pub room : length (h .at) ≡ maxPlaces
+  pub few : h .count ≤ maxPlaces
+  pub inside : (i : ℕ) → i < h .count → getD (h .at) i 0 < h .size
+
+-- n objects, and none on the list
+pub record Begins (n : ℕ) (r : Here) : Type 0 where
+  pub list : standing r ≡ []
+  pub stands : Stands r
+  pub size : r .size ≡ n
+  pub count : r .count ≡ 0
+
+-- the object that k stands for, if any, has come to the end of the list
+pub record Pushed (h : Here) (k : ℕ) (r : Here) : Type 0 where
+  pub list : standing r ≡ standing h ++ push k []
+  pub stands : Stands r
+  pub size : r .size ≡ h .size
+  pub more : r .count ≤ h .count + 1
+
+-- r is where the step leads from d, if anywhere
+pub record Hopped (g n : ℕ) (objects : List ℕ) (ahead : Bool) (P d r : ℕ) : Type 0 where
+  pub value : (edges : List ℕ) → r ≡ hop (groundIn g objects edges) (forestIn g n objects) (directionOf ahead) P d
+  pub inside : r ≤ n
+
+-- r has the list after the step
+pub record Follows (g : ℕ) (objects : List ℕ) (ahead : Bool) (P s : ℕ) (h r : Here) : Type 0 where
+  pub list : (edges : List ℕ)
+      → standing r ≡ next (groundIn g objects edges) (forestIn g (h .size) objects) (directionOf ahead) P (s ∷ standing h)
+  pub stands : Stands r
+  pub size : r .size ≡ h .size
+  pub more : r .count ≤ h .count + 1
+
+-- the values that s and those on the list lack before a step
+abbrev pub madeFor : List ℕ → List ℕ → List ℕ → ℕ → Bool → ℕ → ℕ → Here → Forest
+madeFor schema edges objects g ahead P s h =
+    makeFor (schemaOf schema) (groundIn g objects edges) (directionOf ahead) P (s ∷ standing h) (forestIn g (h .size) objects)

@@ -1,0 +1,78 @@
+-- What the walk of the view asks and promises: of the concept, or of the path, that ends at token e.
+use Prim.Native.Nat.{ℕ, _+_, _*_, _≤_, _<_}
+use mathlib.Core.Bool.{Bool, true, false}
+use mathlib.Core.List.{List}
+use mathlib.Core.Path.{_≡_}
+use lib.ListN.{take}
+use Rattle.records.specs.declared.concept.Token.{Token}
+use Rattle.records.specs.declared.concept.Token.the-variants.{Forward, Backward}
+use Rattle.records.specs.Concept.{Concept, Path}
+use Rattle.records.specs.Layout.{conceptLayout, entries, viewSteps, maxObjects}
+use Rattle.records.specs.SchemaRecord.{signatureOf, schemaOf}
+use Rattle.records.specs.ConceptRecord.{conceptOf}
+use Rattle.records.specs.Refusal.{AcceptedSchema, AcceptedConcept}
+use Rattle.chase.specs.Steps.{conceptSteps, pathSteps}
+use Rattle.chase.specs.Tokens.{conceptAt, pathAt, HasConcept, HasPath}
+use Rattle.chase.specs.Forest.{Forest, size, walk, trek, walks}
+use Rattle.primary.specs.Formed.{maxNodes}
+use Rattle.ground.specs.Objects.{forestIn, groundIn}
+use Rattle.forest.specs.declared.places.Here.{Here}
+use Rattle.forest.specs.Kept.{Kept, Grows}
+use Rattle.forest.specs.Places.{standing, Stands}
+
+-- the token of a step, ahead or back
+abbrev pub stepToken : Bool → ℕ → Token
+stepToken true P = Forward P
+stepToken false P = Backward P
+
+-- the records, the objects and the list are in order, and e is a place of the view
+pub record Walking (schema view objects : List ℕ) (g s e : ℕ) (h : Here) : Type 0 where
+  pub legal : AcceptedSchema schema
+  pub sound : AcceptedConcept viewSteps (signatureOf schema) view
+  pub within : e ≤ entries conceptLayout view
+  pub kept : Kept g (h .size) objects
+  pub start : s < h .size
+  pub stands : Stands h
+
+-- the model's walk from s
+module _ (schema edges objects : List ℕ) (g s : ℕ) (h : Here) where
+  abbrev pub walked : Concept → Forest
+  walked C = walk (schemaOf schema) (groundIn g objects edges) C s (standing h) (forestIn g (h .size) objects)
+
+  abbrev pub trekked : Path → Forest × List ℕ
+  trekked p = trek (schemaOf schema) (groundIn g objects edges) p s (standing h) (forestIn g (h .size) objects)
+
+-- there is room for what it makes
+pub record CanWalk (schema view edges objects : List ℕ) (g s e : ℕ) (h : Here) : Type 0 where
+  pub walking : Walking schema view objects g s e h
+  pub item : HasConcept view e
+  pub fits : size (groundIn g objects edges) (walked schema edges objects g s h (conceptAt view e)) ≤ maxObjects
+  pub places : h .count + conceptSteps (conceptAt view e) ≤ viewSteps
+
+pub record CanTrek (schema view edges objects : List ℕ) (g s e : ℕ) (h : Here) : Type 0 where
+  pub walking : Walking schema view objects g s e h
+  pub item : HasPath view e
+  pub fits : size (groundIn g objects edges) (trekked schema edges objects g s h (pathAt view e) .0) ≤ maxObjects
+  pub places : h .count + pathSteps (pathAt view e) ≤ viewSteps
+
+-- what it leaves
+abbrev pub Walked : List ℕ → List ℕ → List ℕ → List ℕ → ℕ → ℕ → ℕ → Here → List ℕ → ℕ → Type 0
+Walked schema view edges objects g s e h after r =
+    Grows g (h .size) r objects after (walked schema edges objects g s h (conceptAt view e))
+
+pub record Trekked (schema view edges objects : List ℕ) (g s e : ℕ) (h : Here) (after : List ℕ) (r : Here) : Type 0 where
+  pub grows : Grows g (h .size) (r .size) objects after (trekked schema edges objects g s h (pathAt view e) .0)
+  pub list : standing r ≡ trekked schema edges objects g s h (pathAt view e) .1
+  pub stands : Stands r
+
+-- the objects of the largest ground, and 1 + 2 + .. + 6 made ones for each of them
+abbrev pub mostObjects : ℕ
+mostObjects = maxNodes + maxNodes * 21
+
+-- the walks from all objects of the ground
+pub record Walks (schema view edges objects : List ℕ) (g : ℕ) (after : List ℕ) (r : ℕ) : Type 0 where
+  pub value : forestIn g r after ≡ walks (schemaOf schema) (groundIn g objects edges) (conceptOf view)
+  pub size : r ≡ size (groundIn g objects edges) (walks (schemaOf schema) (groundIn g objects edges) (conceptOf view))
+  pub small : r ≤ mostObjects
+  pub kept : Kept g r after
+  pub ground : take g after ≡ take g objects

@@ -1,0 +1,89 @@
+// Values are made: an object that needs a value of an attribute and has none gets one.
+use crate::objects::OBJECTS;
+use crate::objects::classes_at;
+use crate::objects::lacks;
+use crate::objects::wide;
+use crate::objects::word;
+use crate::places::Here;
+use classes::closure::image;
+use classes::collect::needs_mask;
+ghost use Rattle.forest.specs.Kept.{Grows};
+ghost use Rattle.forest.specs.Places.{madeFor};
+ghost use Rattle.forest.specs.Making.{madeAt, madeAll, CanMake, CanMakeAll, CanMakeFor};
+
+// The value of the attribute at an object, if it lacks one. Returns how many objects there are then.
+fn make(
+    schema: &[u16],
+    edges: &[u16],
+    g: usize,
+    n: usize,
+    mask: u32,
+    attribute: usize,
+    d: usize,
+    objects: &mut [u64; OBJECTS],
+) -> usize
+    requires { ⌜ CanMake (now schema) (now edges) (now objects) g n mask attribute d ⌝ }
+    ensures { λ r. ⌜ Grows g n r (now (objects .entry)) (now (objects .exit)) (madeAt (now (schema .entry)) (now (edges .entry)) (now (objects .entry)) g n attribute d) ⌝ }
+{
+    if !lacks(edges, objects, g, n, mask, attribute, d) {
+        return n;
+    }
+    let set = image(schema, classes_at(objects, d), attribute);
+    objects[n] = word(set, attribute, d);
+    n + 1
+}
+
+// The values that the objects on the list lack.
+fn make_all(
+    schema: &[u16],
+    edges: &[u16],
+    g: usize,
+    n: usize,
+    mask: u32,
+    attribute: usize,
+    list: &[u16],
+    objects: &mut [u64; OBJECTS],
+) -> usize
+    requires { ⌜ CanMakeAll (now schema) (now edges) (now objects) g n mask attribute (now list) ⌝ }
+    ensures { λ r. ⌜ Grows g n r (now (objects .entry)) (now (objects .exit)) (madeAll (now (schema .entry)) (now (edges .entry)) (now (objects .entry)) g n attribute (now (list .entry))) ⌝ }
+{
+    let count = list.len();
+    let mut size = n;
+    for i in 0..count {
+        size = make(
+            schema,
+            edges,
+            g,
+            size,
+            mask,
+            attribute,
+            wide(list[i]),
+            objects,
+        );
+    }
+    size
+}
+
+// Before a forward step the object s and those on the list get the values that they lack.
+pub fn make_for(
+    schema: &[u16],
+    edges: &[u16],
+    g: usize,
+    attribute: usize,
+    forward: bool,
+    s: usize,
+    here: Here,
+    objects: &mut [u64; OBJECTS],
+) -> usize
+    requires { ⌜ CanMakeFor (now schema) (now edges) (now objects) g forward attribute s here ⌝ }
+    ensures { λ r. ⌜ Grows g (here .size) r (now (objects .entry)) (now (objects .exit)) (madeFor (now (schema .entry)) (now (edges .entry)) (now (objects .entry)) g forward attribute s here) ⌝ }
+{
+    if !forward {
+        return here.size;
+    }
+    let mask = needs_mask(schema, attribute);
+    let n = make(schema, edges, g, here.size, mask, attribute, s, objects);
+    let at = here.at;
+    let count = here.count;
+    make_all(schema, edges, g, n, mask, attribute, &at[..count], objects)
+}

@@ -1,0 +1,96 @@
+// Where the walk stands: how many objects there are, and which made objects are at the present place of the view.
+use crate::objects::OBJECTS;
+use crate::objects::kid;
+use crate::objects::parent;
+use crate::objects::wide;
+use records::concept::View;
+ghost use Prim.Native.Nat.{_≤_, _<_, _^_};
+ghost use mathlib.Core.Path.{_≡_};
+ghost use Rattle.records.specs.Layout.{maxAttributes};
+ghost use Rattle.forest.specs.Kept.{Kept};
+ghost use Rattle.forest.specs.Places.{maxPlaces, Stands, Begins, Hopped, Pushed, Follows};
+
+// Each step leaves at most one made object more on the list.
+const PLACES: usize = View::STEPS;
+
+pub struct Here {
+    pub size: usize,
+    pub count: usize,
+    pub at: [u16; PLACES],
+}
+
+// Nothing is made yet at the start of the view.
+pub fn begin(n: usize) -> Here
+    ensures { λ r. ⌜ Begins n r ⌝ }
+{
+    Here {
+        size: n,
+        count: 0,
+        at: [0; PLACES],
+    }
+}
+
+fn narrow(x: usize) -> u16
+    requires { ⌜ x < 2 ^ 16 ⌝ }
+    ensures { λ r. ⌜ r ≡ x ⌝ }
+{
+    x as u16
+}
+
+impl Here {
+    // The object that a number stands for, if any, goes to the end of the list.
+    fn push(mut self, k: usize) -> Here
+        requires { ⌜ Stands self × (self .count < maxPlaces) × (self .size < 2 ^ 16) × (k ≤ self .size) ⌝ }
+        ensures { λ r. ⌜ Pushed self k r ⌝ }
+    {
+        if k == 0 {
+            return self;
+        }
+        let i = self.count;
+        self.at[i] = narrow(k - 1);
+        self.count += 1;
+        self
+    }
+}
+
+// Where a step leads from an object within the made part.
+fn hop(
+    objects: &[u64; OBJECTS],
+    g: usize,
+    n: usize,
+    attribute: usize,
+    forward: bool,
+    d: usize,
+) -> usize
+    requires { ⌜ Kept g n (now objects) × (attribute < maxAttributes) × (d < n) ⌝ }
+    ensures { λ r. ⌜ Hopped g n (now (objects .entry)) forward attribute d r ⌝ }
+{
+    if forward {
+        return kid(objects, g, n, attribute, d);
+    }
+    parent(objects, g, n, attribute, d)
+}
+
+// The made objects after a step from s and from those on the list.
+pub fn next(
+    objects: &[u64; OBJECTS],
+    g: usize,
+    attribute: usize,
+    forward: bool,
+    s: usize,
+    here: Here,
+) -> Here
+    requires { ⌜ Kept g (here .size) (now objects) × (attribute < maxAttributes) × (s < here .size) × Stands here × (here .count < maxPlaces) ⌝ }
+    ensures { λ r. ⌜ Follows g (now (objects .entry)) forward attribute s here r ⌝ }
+{
+    let at = here.at;
+    let n = here.size;
+    let none = begin(n);
+    let mut after = none.push(hop(objects, g, n, attribute, forward, s));
+    let count = here.count;
+    for i in 0..count {
+        let more = after.push(hop(objects, g, n, attribute, forward, wide(at[i])));
+        after = more;
+    }
+    after
+}

@@ -1,0 +1,156 @@
+// The walk of the view from object s of the ground, which has g objects, makes the values that the view's steps ask for. The
+// item that ends at a place is read at the token before it. Of two operands the earlier one is walked first.
+use crate::make::make_for;
+use crate::objects::OBJECTS;
+use crate::places::Here;
+use crate::places::begin;
+use crate::places::next;
+use records::concept::Token;
+use records::concept::token_at;
+use records::concept::tokens;
+use tokens::start_of;
+ghost use Prim.Native.Nat.{suc, _≤_};
+ghost use mathlib.Core.Path.{_≡_};
+ghost use Rattle.records.specs.declared.concept.Token.the-variants.{Both, Common};
+ghost use Rattle.records.specs.Layout.{viewSteps};
+ghost use Rattle.records.specs.SchemaRecord.{signatureOf};
+ghost use Rattle.records.specs.ConceptRecord.{tokenAt};
+ghost use Rattle.records.specs.Refusal.{AcceptedSchema, AcceptedConcept};
+ghost use Rattle.primary.specs.Formed.{maxNodes};
+ghost use Rattle.forest.specs.Kept.{Kept};
+ghost use Rattle.forest.specs.Walking.{CanWalk, CanTrek, Walked, Trekked, stepToken, Walks};
+
+// The concept that ends at `end`. Returns how many objects there are then.
+fn walk(
+    schema: &[u16],
+    view: &[u16],
+    edges: &[u16],
+    g: usize,
+    s: usize,
+    end: usize,
+    here: Here,
+    objects: &mut [u64; OBJECTS],
+) -> usize
+    requires { ⌜ CanWalk (now schema) (now view) (now edges) (now objects) g s end here ⌝ }
+    ensures { λ r. ⌜ Walked (now (schema .entry)) (now (view .entry)) (now (edges .entry)) (now (objects .entry)) g s end here (now (objects .exit)) r ⌝ }
+{
+    let at = end - 1;
+    match token_at(view, at) {
+        Token::Both => both(schema, view, edges, g, s, at, here, objects),
+        Token::Reached => {
+            let there = trek(schema, view, edges, g, s, at, here, objects);
+            there.size
+        }
+        Token::Common => common(schema, view, edges, g, s, at, here, objects),
+        // A class, everything or a constant: nothing is made.
+        _ => here.size,
+    }
+}
+
+// Both of two concepts, whose token stands at `at`.
+fn both(
+    schema: &[u16],
+    view: &[u16],
+    edges: &[u16],
+    g: usize,
+    s: usize,
+    at: usize,
+    here: Here,
+    objects: &mut [u64; OBJECTS],
+) -> usize
+    requires { ⌜ CanWalk (now schema) (now view) (now edges) (now objects) g s (suc at) here × (tokenAt (now view) at ≡ Both) ⌝ }
+    ensures { λ r. ⌜ Walked (now (schema .entry)) (now (view .entry)) (now (edges .entry)) (now (objects .entry)) g s (suc at) here (now (objects .exit)) r ⌝ }
+{
+    let n = walk(schema, view, edges, g, s, start_of(view, at), here, objects);
+    let mut there = here;
+    there.size = n;
+    walk(schema, view, edges, g, s, at, there, objects)
+}
+
+// The two paths of a common object, whose token stands at `at`.
+fn common(
+    schema: &[u16],
+    view: &[u16],
+    edges: &[u16],
+    g: usize,
+    s: usize,
+    at: usize,
+    here: Here,
+    objects: &mut [u64; OBJECTS],
+) -> usize
+    requires { ⌜ CanWalk (now schema) (now view) (now edges) (now objects) g s (suc at) here × (tokenAt (now view) at ≡ Common) ⌝ }
+    ensures { λ r. ⌜ Walked (now (schema .entry)) (now (view .entry)) (now (edges .entry)) (now (objects .entry)) g s (suc at) here (now (objects .exit)) r ⌝ }
+{
+    let first = trek(schema, view, edges, g, s, start_of(view, at), here, objects);
+    let mut there = here;
+    there.size = first.size;
+    let last = trek(schema, view, edges, g, s, at, there, objects);
+    last.size
+}
+
+// The path that ends at `end`. Returns where the walk stands then.
+fn trek(
+    schema: &[u16],
+    view: &[u16],
+    edges: &[u16],
+    g: usize,
+    s: usize,
+    end: usize,
+    here: Here,
+    objects: &mut [u64; OBJECTS],
+) -> Here
+    requires { ⌜ CanTrek (now schema) (now view) (now edges) (now objects) g s end here ⌝ }
+    ensures { λ r. ⌜ Trekked (now (schema .entry)) (now (view .entry)) (now (edges .entry)) (now (objects .entry)) g s end here (now (objects .exit)) r ⌝ }
+{
+    let at = end - 1;
+    match token_at(view, at) {
+        Token::Forward(p) => step(schema, view, edges, g, s, at, p, true, here, objects),
+        Token::Backward(p) => step(schema, view, edges, g, s, at, p, false, here, objects),
+        // The empty path.
+        _ => here,
+    }
+}
+
+// The path with a step at its end, whose token stands at `at`.
+fn step(
+    schema: &[u16],
+    view: &[u16],
+    edges: &[u16],
+    g: usize,
+    s: usize,
+    at: usize,
+    attribute: usize,
+    forward: bool,
+    here: Here,
+    objects: &mut [u64; OBJECTS],
+) -> Here
+    requires { ⌜ CanTrek (now schema) (now view) (now edges) (now objects) g s (suc at) here × (tokenAt (now view) at ≡ stepToken forward attribute) ⌝ }
+    ensures { λ r. ⌜ Trekked (now (schema .entry)) (now (view .entry)) (now (edges .entry)) (now (objects .entry)) g s (suc at) here (now (objects .exit)) r ⌝ }
+{
+    let mut there = trek(schema, view, edges, g, s, start_of(view, at), here, objects);
+    let made = make_for(schema, edges, g, attribute, forward, s, there, objects);
+    there.size = made;
+    let mut after = next(objects, g, attribute, forward, s, there);
+    let n = walk(schema, view, edges, g, s, at, after, objects);
+    after.size = n;
+    after
+}
+
+// The view is walked from each object of the ground. Returns how many objects there are then.
+pub fn walks(
+    schema: &[u16],
+    view: &[u16],
+    edges: &[u16],
+    g: usize,
+    objects: &mut [u64; OBJECTS],
+) -> usize
+    requires { ⌜ AcceptedSchema (now schema) × AcceptedConcept viewSteps (signatureOf (now schema)) (now view) × Kept g g (now objects) × (g ≤ maxNodes) ⌝ }
+    ensures { λ r. ⌜ Walks (now (schema .entry)) (now (view .entry)) (now (edges .entry)) (now (objects .entry)) g (now (objects .exit)) r ⌝ }
+{
+    let end = tokens(view);
+    let mut n = g;
+    for s in 0..g {
+        n = walk(schema, view, edges, g, s, end, begin(n), objects);
+    }
+    n
+}
