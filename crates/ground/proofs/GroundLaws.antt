@@ -42,17 +42,17 @@ all-getD X (x ∷ l) h (suc i) k = all-getD X l (h .1) i (omega arith)
 
 -- the representatives and sets are those of the task's primary part
 module _ (t : Task) (r s : List ℕ) (is : prime r s ≡ primary t) where
-  pub ground-agrees : (g : ℕ) (objects es fs : List ℕ) → length r ≡ nodes t → map edgeOf es ≡ asked t .edges
-      → Grounds (prime r s) (length r) g objects → map edgeOf fs ≡ map (renumberIn r) (map edgeOf es)
-      → Agrees (groundIn g objects fs) (ground t)
+  pub ground-agrees : (g : ℕ) (objects es : List ℕ) → length r ≡ nodes t → Grounds (prime r s) (length r) g objects
+      → map edgeOf es ≡ map (renumberIn r) (asked t .edges)
+      → Agrees (groundIn g objects es) (ground t)
   unfolding ground groundOf
-  ground-agrees g objects es fs size h a k =
+  ground-agrees g objects es size a k =
       record {
         objects = a .number ∙ ap₂ (λ (n : ℕ) (x : Prime). count n (live x)) size is;
         sets =
             ap (map classesIn) (a .words) ∙ sets-back (listing (live (prime r s)) (setOf (prime r s)) (length r))
             ∙ ap₂ (λ (n : ℕ) (x : Prime). listing (live x) (setOf x) n) size is;
-        edges = k ∙ renumber-any r s (map edgeOf es) ∙ ap₂ (λ (x : Prime) (l : List Edge). map (renumber x) l) is h;
+        edges = k ∙ renumber-any r s (asked t .edges) ∙ ap (λ (x : Prime). map (renumber x) (asked t .edges)) is;
       }
 
   -- the objects of the constants and of the start

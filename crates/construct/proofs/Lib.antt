@@ -1,0 +1,4 @@
+-- The model's parts, as the code finds them.
+mod NodeLaws
+mod ClosedLaws
+mod ListedLaws

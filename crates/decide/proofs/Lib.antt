@@ -1,0 +1,4 @@
+-- Why decide keeps its promise.
+mod PrefixLaws
+mod DecisionLaws
+mod VerdictLaws

@@ -1,0 +1,53 @@
+-- Decide: "held", with the lent words unaltered, exactly when no legal finite state of any size has an object in the query and
+-- outside the view; otherwise "open", with the record of such a state at the start of the lent words.
+use Prim.Native.Nat.{ℕ, _≤_}
+use mathlib.Core.List.{List, [], _∷_, _++_}
+use mathlib.Core.Bool.{cond}
+use mathlib.Core.Logic.{_↔_, _⊎_}
+use mathlib.Core.Path.{_≡_}
+use lib.ListN.{length, drop}
+use Rattle.records.specs.Layout.{maxObjects, maxStateWords}
+use Rattle.records.specs.Subsumption.{Counterexample, Open, Held}
+use Rattle.records.specs.SchemaRecord.{signatureOf, schemaOf}
+use Rattle.records.specs.ConceptRecord.{conceptOf}
+use Rattle.records.specs.StateRecord.{stateOf}
+use Rattle.records.specs.Refusal.{refusal-11, AcceptedState}
+use Rattle.judge.specs.Refusals.{firstRefusal, schemaRefusal, queryRefusal, viewRefusal}
+use Rattle.decide.specs.declared.DecideAnswer.{DecideAnswer}
+use Rattle.decide.specs.declared.DecideAnswer.the-variants as answers
+
+abbrev pub decideRefusal : List ℕ → List ℕ → List ℕ → List ℕ → ℕ
+decideRefusal schema query view lent =
+    firstRefusal
+    (schemaRefusal schema
+    ∷ queryRefusal schema query
+    ∷ viewRefusal schema view
+    ∷ cond (refusal-11 maxStateWords lent) 11 0
+    ∷ [])
+
+module _ (schema query view lent : List ℕ) where
+  -- The words begin with the accepted record of a legal state of n objects, in which object d is in the query and outside the
+  -- view. Words after the record are unaltered.
+  pub record Shown (n d : ℕ) (words : List ℕ) : Type 0 where
+    pub written : List ℕ
+    pub begins : words ≡ written ++ drop (length written) lent
+    pub room : length written ≤ length lent
+    pub accepted : AcceptedState (signatureOf schema) written
+    pub objects : stateOf written .size ≡ n
+    pub small : n ≤ maxObjects
+    pub counterexample : Counterexample (schemaOf schema) (conceptOf query) (conceptOf view) (stateOf written) d
+
+  module _ (answer : DecideAnswer) (words : List ℕ) where
+    -- what is answered to accepted records
+    pub record Verdict : Type 0 where
+      pub either : (answer ≡ answers.Held) ⊎ ((n d : ℕ) × (answer ≡ answers.Open n d))
+      pub is-held : (answer ≡ answers.Held) ↔ Held (schemaOf schema) (conceptOf query) (conceptOf view)
+      pub unaltered : answer ≡ answers.Held → words ≡ lent
+      pub is-open : ((n d : ℕ) × (answer ≡ answers.Open n d)) ↔ Open (schemaOf schema) (conceptOf query) (conceptOf view)
+      pub shown : (n d : ℕ) → answer ≡ answers.Open n d → Shown n d words
+
+    -- what is answered to any words
+    pub record Decision : Type 0 where
+      pub refused : (decideRefusal schema query view lent ≡ 0 → ⊥)
+          → (answer ≡ answers.Refused (decideRefusal schema query view lent)) × (words ≡ lent)
+      pub decided : decideRefusal schema query view lent ≡ 0 → Verdict

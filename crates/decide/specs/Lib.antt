@@ -1,0 +1,2 @@
+-- What decide promises.
+pub mod Decision
