@@ -30,6 +30,17 @@ uint16_t bikuvoa_counterexample(const uint16_t *schema, size_t schema_words, con
                                 const uint16_t *view, size_t view_words, const uint16_t *state, size_t state_words,
                                 uint64_t *found);
 
+/* The least number of lent words for bikuvoa_decide. */
+#define BIKUVOA_DECIDE_WORDS 30762
+
+/* Whether in every legal finite state, of any size, each object in the query is in the view. If so, *objects becomes 0 and
+ * no lent word is altered. If not, the lent words begin with the record of a legal state of *objects objects (at most 480)
+ * in which *object is in the query and outside the view; words after that record are unaltered. Refused as 11 if there
+ * are fewer than BIKUVOA_DECIDE_WORDS lent words. */
+uint16_t bikuvoa_decide(const uint16_t *schema, size_t schema_words, const uint16_t *query, size_t query_words,
+                        const uint16_t *view, size_t view_words, uint16_t *lent, size_t lent_words, uint64_t *objects,
+                        uint64_t *object);
+
 #ifdef __cplusplus
 }
 #endif

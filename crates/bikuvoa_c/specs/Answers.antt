@@ -1,12 +1,17 @@
 -- An answer as C gets it, since an enum does not cross: the number that a call returns, 0 or the refusal's, and the out value
 -- after the call, which a refused call leaves as it was.
 use Prim.Native.Nat.{ℕ, suc, _^_, _<_}
+use mathlib.Core.List.{List}
+use mathlib.Core.Path.{_≡_}
 use Rattle.judge.specs.declared.select.SelectAnswer.{SelectAnswer}
 use Rattle.judge.specs.declared.select.SelectAnswer.the-variants as select
 use Rattle.judge.specs.declared.legal.LegalAnswer.{LegalAnswer}
 use Rattle.judge.specs.declared.legal.LegalAnswer.the-variants as legal
 use Rattle.judge.specs.declared.counterexample.CounterexampleAnswer.{CounterexampleAnswer}
 use Rattle.judge.specs.declared.counterexample.CounterexampleAnswer.the-variants as counterexample
+use Rattle.decide.specs.declared.DecideAnswer.{DecideAnswer}
+use Rattle.decide.specs.declared.DecideAnswer.the-variants as decide
+use Rattle.decide.specs.Decision.{Decision}
 
 abbrev pub selectReturns : SelectAnswer → ℕ
 selectReturns (select.Selected n) = 0
@@ -38,6 +43,32 @@ abbrev pub counterexampleWrites : CounterexampleAnswer → ℕ → ℕ
 counterexampleWrites counterexample.No before = 0
 counterexampleWrites (counterexample.Yes d) before = suc d
 counterexampleWrites (counterexample.Refused number) before = before
+
+abbrev pub decideReturns : DecideAnswer → ℕ
+decideReturns decide.Held = 0
+decideReturns (decide.Open n d) = 0
+decideReturns (decide.Refused number) = number
+
+-- 0 for held, how many objects the written state has
+abbrev pub decideObjects : DecideAnswer → ℕ → ℕ
+decideObjects decide.Held before = 0
+decideObjects (decide.Open n d) before = n
+decideObjects (decide.Refused number) before = before
+
+-- the object, where there is a written state
+abbrev pub decideObject : DecideAnswer → ℕ → ℕ
+decideObject decide.Held before = before
+decideObject (decide.Open n d) before = d
+decideObject (decide.Refused number) before = before
+
+-- an answer that decide may give, with the lent words after it, and what C gets of it
+pub record DecidedTo (schema query view lent : List ℕ) (objects object : ℕ) (returned : ℕ) (words : List ℕ) (objects′ object′ : ℕ)
+    : Type 0 where
+  pub answer : DecideAnswer
+  pub decision : Decision schema query view lent answer words
+  pub returns : returned ≡ decideReturns answer
+  pub writes-objects : objects′ ≡ decideObjects answer objects
+  pub writes-object : object′ ≡ decideObject answer object
 
 -- one more than the number in the answer is a word of 64 bits
 abbrev pub LegalFits : LegalAnswer → Type 0

@@ -1,5 +1,6 @@
 // The entries for C (include/bikuvoa.h). Each returns 0, or the number of the first refusal that applies, and then no lent
 // word and no out value is altered. A slice crosses as a pointer and a length.
+use decide::DecideAnswer;
 use judge::counterexample::CounterexampleAnswer;
 use judge::legal::LegalAnswer;
 use judge::select::SelectAnswer;
@@ -7,7 +8,7 @@ ghost use mathlib.Core.Path.{_≡_};
 ghost use Rattle.judge.specs.Select.{selectOutcome};
 ghost use Rattle.judge.specs.LegalState.{legalAnswer};
 ghost use Rattle.judge.specs.Counterexample.{counterexampleAnswer};
-ghost use Rattle.bikuvoa_c.specs.Answers.{selectReturns, selectWrites, legalReturns, legalWrites, counterexampleReturns, counterexampleWrites, LegalFits, CounterexampleFits};
+ghost use Rattle.bikuvoa_c.specs.Answers.{selectReturns, selectWrites, legalReturns, legalWrites, counterexampleReturns, counterexampleWrites, LegalFits, CounterexampleFits, decideReturns, decideObjects, decideObject, DecidedTo};
 
 fn select_returns(answer: SelectAnswer) -> u16
     ensures { λ r. ⌜ r ≡ selectReturns answer ⌝ }
@@ -110,4 +111,51 @@ pub extern "C" fn bikuvoa_counterexample(
     let answer = judge::counterexample::counterexample(schema, query, view, state);
     *found = counterexample_writes(answer, *found);
     counterexample_returns(answer)
+}
+
+fn decide_returns(answer: DecideAnswer) -> u16
+    ensures { λ r. ⌜ r ≡ decideReturns answer ⌝ }
+{
+    match answer {
+        DecideAnswer::Held => 0,
+        DecideAnswer::Open(_, _) => 0,
+        DecideAnswer::Refused(number) => number,
+    }
+}
+
+fn decide_objects(answer: DecideAnswer, before: u64) -> u64
+    ensures { λ r. ⌜ r ≡ decideObjects answer before ⌝ }
+{
+    match answer {
+        DecideAnswer::Held => 0,
+        DecideAnswer::Open(n, _) => n as u64,
+        DecideAnswer::Refused(_) => before,
+    }
+}
+
+fn decide_object(answer: DecideAnswer, before: u64) -> u64
+    ensures { λ r. ⌜ r ≡ decideObject answer before ⌝ }
+{
+    match answer {
+        DecideAnswer::Held => before,
+        DecideAnswer::Open(_, object) => object as u64,
+        DecideAnswer::Refused(_) => before,
+    }
+}
+
+#[no_mangle]
+pub extern "C" fn bikuvoa_decide(
+    schema: &[u16],
+    query: &[u16],
+    view: &[u16],
+    lent: &mut [u16],
+    objects: &mut u64,
+    object: &mut u64,
+) -> u16
+    ensures { λ r. ⌜ DecidedTo (now (schema .entry)) (now (query .entry)) (now (view .entry)) (now (lent .entry)) (now (objects .entry)) (now (object .entry)) r (now (lent .exit)) (now (objects .exit)) (now (object .exit)) ⌝ }
+{
+    let answer = decide::decide(schema, query, view, lent);
+    *objects = decide_objects(answer, *objects);
+    *object = decide_object(answer, *object);
+    decide_returns(answer)
 }

@@ -1,0 +1,72 @@
+// Decides the triple in schema.bin, query.bin and view.bin of the folder it is run in, and prints HELD, or OPEN with the
+// number of objects and the object and then each fact of the state, or REFUSED with the number. What decide promises is
+// proved; that files are read and lines printed as meant is not stated.
+use decide::DecideAnswer;
+use decide::STATE_WORDS;
+use decide::decide;
+use records::concept::MAX_TOKENS;
+use records::layout::left;
+use records::layout::right;
+use records::schema::MAX_AXIOMS;
+use records::state::facts;
+use records::state::state_layout;
+
+// One word more than any accepted record has, so that a file which is cut off here is refused for its shape.
+const SCHEMA_WORDS: usize = 4 + 2 * MAX_AXIOMS + 1;
+
+const CONCEPT_WORDS: usize = 2 + 2 * MAX_TOKENS + 1;
+
+const BYTES: usize = 2 * SCHEMA_WORDS;
+
+fn print(text: &[u8]) {
+    io::write_all(libc::STDOUT_FILENO, text);
+}
+
+fn print_number(n: usize) {
+    io::print_decimal(libc::STDOUT_FILENO, n as u64);
+}
+
+fn print_pair(a: usize, b: usize) {
+    print_number(a);
+    print(b" ");
+    print_number(b);
+    print(b"\n");
+}
+
+fn print_facts(words: &[u16]) {
+    let n = facts(words);
+    for i in 0..n {
+        print_pair(
+            left(state_layout(), words, i),
+            right(state_layout(), words, i),
+        );
+    }
+}
+
+fn run(schema: &[u16], query: &[u16], view: &[u16]) {
+    let mut lent = [0u16; STATE_WORDS];
+    match decide(schema, query, view, &mut lent) {
+        DecideAnswer::Held => print(b"HELD\n"),
+        DecideAnswer::Open(objects, object) => {
+            print(b"OPEN ");
+            print_pair(objects, object);
+            print_facts(&lent);
+        }
+        DecideAnswer::Refused(number) => {
+            print(b"REFUSED ");
+            print_number(number as usize);
+            print(b"\n");
+        }
+    }
+}
+
+fn main() {
+    let mut bytes = [0u8; BYTES];
+    let mut schema = [0u16; SCHEMA_WORDS];
+    let mut query = [0u16; CONCEPT_WORDS];
+    let mut view = [0u16; CONCEPT_WORDS];
+    let s = files::load(b"schema.bin", &mut bytes, &mut schema);
+    let q = files::load(b"query.bin", &mut bytes, &mut query);
+    let v = files::load(b"view.bin", &mut bytes, &mut view);
+    run(&schema[..s], &query[..q], &view[..v]);
+}

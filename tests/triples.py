@@ -1,0 +1,155 @@
+#!/usr/bin/env python3
+"""Triples of schema, query and view with the verdicts of document 01, for the programs `triples` and `bikuvoa`, and the rowing
+club's example. Expected verdicts are the papers', worked out by hand where the papers say none.
+
+  triples.py write   write the program's data and expected output, and the example
+  triples.py check   fail if what is written there differs from this table
+"""
+import pathlib
+import sys
+
+from words import (BACKWARD, BOTH, CLASS, COMMON, CONSTANT, EMPTY, EVERYTHING, FORWARD, REACHED, axiom, concept, kept, schema,
+                   words)
+
+ROOT = pathlib.Path(__file__).resolve().parent.parent
+CRATE = ROOT / "crates" / "triples"
+PROGRAM = ROOT / "crates" / "bikuvoa"
+
+# Classes and attributes of the small triples.
+A, B, C = range(3)
+P, Q = range(2)
+
+
+def includes(a, b):
+    return axiom(1, a, b)
+
+
+def types(a, p, b):
+    return axiom(2, a, p * 256 + b)
+
+
+def needs(a, p):
+    return axiom(3, a, p)
+
+
+def single(a, p):
+    return axiom(4, a, p)
+
+
+def relates(p, a, b):
+    return axiom(5, p, a * 256 + b)
+
+
+# Concepts as lists of tokens.
+def is_a(a):
+    return [(CLASS, a)]
+
+
+def both(c, d):
+    return c + d + [BOTH]
+
+
+def path(*steps):
+    """Each step is a direction, an attribute and the concept on which it lands."""
+    tokens = [EMPTY]
+    for direction, attribute, landing in steps:
+        tokens += landing + [(direction, attribute)]
+    return tokens
+
+
+def reached(*steps):
+    return path(*steps) + [REACHED]
+
+
+ANY = [EVERYTHING]
+
+
+def small(*axioms):
+    return schema(3, 2, 2, axioms)
+
+
+def forward(*landings):
+    return reached(*((FORWARD, P, landing) for landing in landings))
+
+
+TWO_VALUES = both(is_a(A), both(forward(is_a(B)), forward(is_a(C))))
+ONE_VALUE = forward(both(is_a(B), is_a(C)))
+LOOP = (needs(A, P), types(A, P, A))
+TWO_CONSTANTS = both([(CONSTANT, 0)], [(CONSTANT, 1)])
+
+# The medical example of the report.
+PATIENT, PERSON, DRUG, DOCTOR, DISEASE, STRING, TOPIC, MALE, FEMALE = range(9)
+TAKES, CONSULTS, SUFFERS, NAME, SKILLED_IN = range(5)
+MEDICAL = schema(9, 5, 0, [
+    includes(PATIENT, PERSON), types(PATIENT, TAKES, DRUG), types(PATIENT, CONSULTS, DOCTOR), types(PATIENT, SUFFERS, DISEASE),
+    needs(PATIENT, SUFFERS), types(PERSON, NAME, STRING), needs(PERSON, NAME), single(PERSON, NAME),
+    types(DOCTOR, SKILLED_IN, DISEASE), relates(SKILLED_IN, PERSON, TOPIC)])
+PATIENT_QUERY = both(both(is_a(MALE), is_a(PATIENT)),
+                     path((FORWARD, CONSULTS, is_a(FEMALE)))
+                     + path((FORWARD, SUFFERS, ANY), (BACKWARD, SKILLED_IN, is_a(DOCTOR))) + [COMMON])
+PATIENT_VIEW = both(both(is_a(PATIENT), reached((FORWARD, NAME, is_a(STRING)))),
+                    path((FORWARD, CONSULTS, is_a(DOCTOR)), (FORWARD, SKILLED_IN, is_a(DISEASE)))
+                    + path((FORWARD, SUFFERS, is_a(DISEASE))) + [COMMON])
+
+# A rowing club: what may be read from the stored list of persons whose strap has recorded a beat of a session.
+ROWER_PERSON, ROWER, STRAP, SESSION, BEAT = range(5)
+WEARS, RECORDS, DURING, ATTENDS = range(4)
+CLUB = schema(5, 4, 0, [
+    includes(ROWER, ROWER_PERSON), needs(ROWER, WEARS), single(ROWER_PERSON, WEARS), relates(WEARS, ROWER_PERSON, STRAP),
+    needs(STRAP, RECORDS), relates(RECORDS, STRAP, BEAT), needs(BEAT, DURING), single(BEAT, DURING),
+    relates(DURING, BEAT, SESSION), relates(ATTENDS, ROWER_PERSON, SESSION)])
+ROWERS = both(is_a(ROWER), reached((FORWARD, ATTENDS, is_a(SESSION))))
+RECORDED = both(is_a(ROWER_PERSON), reached((FORWARD, WEARS, is_a(STRAP)), (FORWARD, RECORDS, ANY), (FORWARD, DURING, is_a(SESSION))))
+
+TRIPLES = [
+    (schema(1, 0, 0), is_a(A), is_a(A), "HELD"),
+    (small(needs(A, P), relates(P, B, C)), is_a(A), is_a(B), "HELD"),
+    (small(*LOOP), is_a(A), forward(*[ANY] * 6), "HELD"),
+    (small(*LOOP), is_a(A), forward(*[ANY] * 5, is_a(B)), "OPEN"),
+    (small(), TWO_CONSTANTS, is_a(A), "HELD"),
+    (small(), TWO_CONSTANTS, forward(is_a(B)), "HELD"),
+    (small(single(A, P)), TWO_VALUES, ONE_VALUE, "HELD"),
+    (small(), TWO_VALUES, ONE_VALUE, "OPEN"),
+    (small(needs(A, P)), is_a(A), reached((FORWARD, P, ANY), (BACKWARD, P, is_a(B))), "OPEN"),
+    (MEDICAL, PATIENT_QUERY, PATIENT_VIEW, "HELD"),
+    (MEDICAL, PATIENT_VIEW, PATIENT_QUERY, "OPEN"),
+    # At most one value forward says nothing of backward steps.
+    (small(single(A, P)), both(is_a(A), both(reached((BACKWARD, P, is_a(B))), reached((BACKWARD, P, is_a(C))))),
+     reached((BACKWARD, P, both(is_a(B), is_a(C)))), "OPEN"),
+    # The way back from a made value is to its maker.
+    (small(needs(A, P)), is_a(A), reached((FORWARD, P, ANY), (BACKWARD, P, is_a(A))), "HELD"),
+    (CLUB, ROWERS, RECORDED, "HELD"),
+    (CLUB, RECORDED, ROWERS, "OPEN"),
+    # Faulty records are refused in the order schema, query, view.
+    ([], is_a(A), is_a(A), "REFUSED 1"),
+    (small(axiom(6, 0, 0)), is_a(9), [BOTH], "REFUSED 2"),
+    (small(), [], [BOTH], "REFUSED 3"),
+    (small(), is_a(3), [BOTH], "REFUSED 4"),
+    (small(), [BOTH], is_a(3), "REFUSED 5"),
+    (small(), is_a(A), forward(*[ANY] * 7), "REFUSED 6"),
+]
+
+
+def files(folder, schema_words, query, view):
+    """The three files that the program reads."""
+    return {folder / f"{name}.bin": words(record) for name, record in (("schema", schema_words), ("query", query), ("view", view))}
+
+
+def line(i, verdict):
+    return f"{i} {verdict}, a counterexample\n" if verdict == "OPEN" else f"{i} {verdict}\n"
+
+
+def made():
+    records = [(schema_words, concept(query), concept(view)) for schema_words, query, view, _ in TRIPLES]
+    data = b"".join(words([len(s), len(q), len(v), *s, *q, *v]) for s, q, v in records)
+    lines = "".join(line(i, verdict) for i, (*_, verdict) in enumerate(TRIPLES))
+    first = records[0]
+    return {
+        CRATE / "data" / "triples.bin": data, CRATE / "stdout": lines.encode(),
+        **files(PROGRAM / "data", *first), PROGRAM / "stdout": b"HELD\n",
+        **files(ROOT / "example", CLUB, concept(ROWERS), concept(RECORDED)),
+    }
+
+
+if __name__ == "__main__":
+    sys.exit(kept("triples", made(), sys.argv[1:], f"{len(TRIPLES)} triples"))
