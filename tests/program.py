@@ -1,0 +1,110 @@
+#!/usr/bin/env python3
+"""Runs target/bin/bikuvoa in folders of its own: on the triples of tests/triples.py, and on missing, odd and overlong files.
+Of an open answer the printed state is judged here, by table 1 of the report read as sets of objects. Not proved.
+"""
+import pathlib
+import subprocess
+import sys
+import tempfile
+
+from triples import ROOT, TRIPLES, files
+from words import BACKWARD, BOTH, CLASS, COMMON, CONSTANT, EMPTY, EVERYTHING, FORWARD, REACHED, concept
+
+PROGRAM = ROOT / "target" / "bin" / "bikuvoa"
+
+
+def run(contents):
+    """What the program prints in a folder with these files (name to bytes)."""
+    with tempfile.TemporaryDirectory() as folder:
+        for name, content in contents.items():
+            (pathlib.Path(folder) / name).write_bytes(content)
+        return subprocess.run([PROGRAM], cwd=folder, capture_output=True, check=True, text=True).stdout.splitlines()
+
+
+class State:
+    """The state that the printed lines stand for."""
+
+    def __init__(self, lines):
+        word, objects, self.object = lines[0].split()
+        assert word == "OPEN"
+        self.objects, self.object = range(int(objects)), int(self.object)
+        facts = [tuple(map(int, line.split())) for line in lines[1:]]
+        assert facts == sorted(set(facts)), "the facts ascend"
+        self.facts = {(left // 512, left % 512, right) for left, right in facts}
+
+    def pairs(self, attribute):
+        return {(x, y) for kind, x, y in self.facts if kind == 24 + attribute}
+
+    def members(self, kind):
+        return {x for k, x, _ in self.facts if k == kind}
+
+    def breaks(self, left, right):
+        """Whether the axiom is broken."""
+        kind, subject, p, b = left // 256, left % 256, right // 256, right % 256
+        if kind == 1:
+            return not self.members(subject) <= self.members(right)
+        if kind == 2:
+            return any(x in self.members(subject) and y not in self.members(b) for x, y in self.pairs(p))
+        if kind == 5:
+            return any(x not in self.members(p) or y not in self.members(b) for x, y in self.pairs(subject))
+        values = [sum(x == d for x, _ in self.pairs(right)) for d in self.members(subject)]
+        return any(n == 0 for n in values) if kind == 3 else any(n > 1 for n in values)
+
+    def selects(self, tokens):
+        """The objects in the concept; a path is the set of pairs that it leads along."""
+        pile = []
+        for token in tokens:
+            sort, argument = token if isinstance(token, tuple) else (token, 0)
+            if sort == CLASS:
+                pile.append(self.members(argument))
+            elif sort == EVERYTHING:
+                pile.append(set(self.objects))
+            elif sort == CONSTANT:
+                pile.append(self.members(32 + argument))
+            elif sort == BOTH:
+                pile.append(pile.pop() & pile.pop())
+            elif sort == EMPTY:
+                pile.append({(x, x) for x in self.objects})
+            elif sort in (FORWARD, BACKWARD):
+                landing, path = pile.pop(), pile.pop()
+                step = self.pairs(argument) if sort == FORWARD else {(y, x) for x, y in self.pairs(argument)}
+                pile.append({(x, z) for x, y in path for w, z in step if w == y and z in landing})
+            else:
+                path = pile.pop() & pile.pop() if sort == COMMON else pile.pop()
+                pile.append({x for x, _ in path})
+        return pile.pop()
+
+
+def judged(lines, schema, query, view):
+    state = State(lines)
+    n = schema[3]
+    assert not any(state.breaks(*axiom) for axiom in zip(schema[4:4 + n], schema[4 + n:])), "a legal state"
+    assert state.object in state.selects(query) - state.selects(view), "an object in the query and outside the view"
+
+
+def main():
+    for i, (schema, query, view, verdict) in enumerate(TRIPLES):
+        contents = {path.name: content for path, content in files(pathlib.Path(), schema, concept(query), concept(view)).items()}
+        lines = run(contents)
+        first = lines[0].split()
+        assert first[:len(verdict.split())] == verdict.split(), (i, lines)
+        if verdict == "OPEN":
+            judged(lines, schema, query, view)
+        else:
+            assert len(lines) == 1, (i, lines)
+    good = {path.name: content for path, content in files(pathlib.Path(), [0, 0, 0, 0], [1, 0, 2, 0], [1, 0, 2, 0]).items()}
+    spoilt = [({}, "REFUSED 1")]
+    for name, number in (("schema.bin", 1), ("query.bin", 3), ("view.bin", 3)):
+        spoilt.append(({k: v for k, v in good.items() if k != name}, f"REFUSED {number}"))
+        spoilt += [({**good, name: content}, f"REFUSED {number}") for content in (good[name] + b"\0", good[name] + bytes(1000), b"\0" * 70001)]
+    # Each at its record's turn: a bad view is seen only after its query.
+    spoilt.append(({**good, "query.bin": b"\1\0\0\0\x0a\0\0\0", "view.bin": b""}, "REFUSED 4"))
+    assert run(good) == ["HELD"]
+    for contents, line in spoilt:
+        assert run(contents) == [line], (contents.keys(), run(contents))
+    print(f"program: {len(TRIPLES)} triples, {len(spoilt)} bad folders")
+    return 0
+
+
+if __name__ == "__main__":
+    sys.exit(main())

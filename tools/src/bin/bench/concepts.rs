@@ -1,0 +1,143 @@
+//! The queries, views and concepts of the inputs.
+
+use crate::schemas::{CONSULTS, NAME, SKILLED_IN, SUFFERS, WEARS};
+use crate::schemas::{DISEASE, DOCTOR, FEMALE, FREE, MALE, PATIENT, PERSON, STRAP, STRING};
+use tools::record::token::{backward, class, forward};
+use tools::record::token::{BOTH, COMMON, EMPTY_PATH, EVERYTHING, REACHED};
+use tools::record::{concept, Pair, MOST_ATTRIBUTES, MOST_TOKENS, QUERY_STEPS, VIEW_STEPS};
+
+pub fn person() -> Vec<u16> {
+    concept(&[class(PERSON)])
+}
+
+/// A value of wears that is also worn by a strap.
+pub fn there_and_back() -> Vec<u16> {
+    concept(&[
+        EMPTY_PATH,
+        EVERYTHING,
+        forward(WEARS),
+        class(STRAP),
+        backward(WEARS),
+        REACHED,
+    ])
+}
+
+/// The report's query: male patients who consult a female doctor skilled in
+/// what they suffer from.
+pub fn patients() -> Vec<u16> {
+    concept(&[
+        class(MALE),
+        class(PATIENT),
+        BOTH,
+        EMPTY_PATH,
+        class(FEMALE),
+        forward(CONSULTS),
+        EMPTY_PATH,
+        EVERYTHING,
+        forward(SUFFERS),
+        class(DOCTOR),
+        backward(SKILLED_IN),
+        COMMON,
+        BOTH,
+    ])
+}
+
+/// The report's view: named patients with a doctor skilled in their disease.
+pub fn known_patients() -> Vec<u16> {
+    concept(&[
+        class(PATIENT),
+        EMPTY_PATH,
+        class(STRING),
+        forward(NAME),
+        REACHED,
+        BOTH,
+        EMPTY_PATH,
+        class(DOCTOR),
+        forward(CONSULTS),
+        class(DISEASE),
+        forward(SKILLED_IN),
+        EMPTY_PATH,
+        class(DISEASE),
+        forward(SUFFERS),
+        COMMON,
+        BOTH,
+    ])
+}
+
+/// Puts a path with these steps, each landing on the class.
+fn put_path(tokens: &mut Vec<Pair>, landing: u16, steps: impl Iterator<Item = Pair>) {
+    tokens.push(EMPTY_PATH);
+    tokens.extend(steps.flat_map(|step| [class(landing), step]));
+}
+
+/// The record with as many tokens as there may be, by asking for class 0 over
+/// and over, and once for what the empty path reaches if the tokens are odd.
+fn filled(mut tokens: Vec<Pair>) -> Vec<u16> {
+    if tokens.len() % 2 == 1 {
+        tokens.extend([EMPTY_PATH, REACHED, BOTH]);
+    }
+    while tokens.len() < MOST_TOKENS {
+        tokens.extend([class(0), BOTH]);
+    }
+    concept(&tokens)
+}
+
+/// Two paths of eight steps each, out and on, to a common object.
+pub fn long_paths() -> Vec<u16> {
+    let mut tokens = Vec::new();
+    put_path(&mut tokens, 1, (0..QUERY_STEPS / 2).map(|_| forward(0)));
+    put_path(&mut tokens, 1, (0..QUERY_STEPS / 2).map(|_| backward(0)));
+    tokens.push(COMMON);
+    filled(tokens)
+}
+
+/// A path of six steps.
+pub fn six_steps() -> Vec<u16> {
+    let mut tokens = Vec::new();
+    put_path(&mut tokens, 1, (0..VIEW_STEPS).map(|_| forward(0)));
+    tokens.push(REACHED);
+    filled(tokens)
+}
+
+/// Four paths of four steps along all attributes.
+pub fn star() -> Vec<u16> {
+    let mut tokens = vec![EMPTY_PATH, REACHED];
+    for arm in 0..4 {
+        let steps = (0..4).map(|step| forward((4 * arm + step) % MOST_ATTRIBUTES));
+        put_path(&mut tokens, 0, steps);
+        tokens.extend([REACHED, BOTH]);
+    }
+    filled(tokens)
+}
+
+/// A path along six attributes that the largest schema needs, to a class that
+/// nothing is forced into.
+pub fn six_needs() -> Vec<u16> {
+    let mut tokens = Vec::new();
+    put_path(&mut tokens, 0, (0..6).map(forward));
+    let last = tokens.len() - 2;
+    tokens[last] = class(FREE);
+    tokens.push(REACHED);
+    filled(tokens)
+}
+
+/// How many common objects stand in each other.
+const DEPTH: usize = 15;
+
+/// An object that is its own value, and that value is its own value, and so on.
+pub fn nested() -> Vec<u16> {
+    let mut tokens = vec![EMPTY_PATH; DEPTH];
+    tokens.push(class(1));
+    for _ in 0..DEPTH {
+        tokens.extend([forward(0), EMPTY_PATH, COMMON]);
+    }
+    filled(tokens)
+}
+
+/// One path of as many steps.
+pub fn flat() -> Vec<u16> {
+    let mut tokens = Vec::new();
+    put_path(&mut tokens, 1, (0..DEPTH).map(|_| forward(0)));
+    tokens.push(REACHED);
+    filled(tokens)
+}

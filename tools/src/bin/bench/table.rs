@@ -1,0 +1,77 @@
+//! The tables, as Markdown.
+
+use crate::inputs::{LARGEST, SMALL};
+use tools::call::Entry;
+
+/// An input with its times in nanoseconds.
+pub struct Row {
+    pub entry: Entry,
+    pub size: &'static str,
+    pub words: usize,
+    pub proved: f64,
+    pub reference: f64,
+}
+
+pub fn print_calls(rows: &[Row]) {
+    println!("| entry | input | words | proved | reference | reference / proved |");
+    println!("|---|---|--:|--:|--:|--:|");
+    for row in rows {
+        println!(
+            "| {} | {} | {} | {} | {} | {:.1} |",
+            row.entry.name(),
+            row.size,
+            row.words,
+            time(row.proved),
+            time(row.reference),
+            row.reference / row.proved
+        );
+    }
+}
+
+pub fn print_growth(rows: &[Row]) {
+    println!();
+    println!("| from small to largest | words | proved | reference |");
+    println!("|---|--:|--:|--:|");
+    for entry in Entry::ALL {
+        let of_size = |size| {
+            rows.iter()
+                .find(|row| row.entry == entry && row.size == size)
+        };
+        if let (Some(small), Some(largest)) = (of_size(SMALL), of_size(LARGEST)) {
+            println!(
+                "| {} | ×{:.0} | ×{:.0} | ×{:.0} |",
+                entry.name(),
+                largest.words as f64 / small.words as f64,
+                largest.proved / small.proved,
+                largest.reference / small.reference
+            );
+        }
+    }
+}
+
+pub fn print_nesting(nested: f64, flat: f64) {
+    println!();
+    println!("| select, largest, 64 tokens | 15 nested common objects | flat | nested / flat |");
+    println!("|---|--:|--:|--:|");
+    let ratio = nested / flat;
+    println!(
+        "| proved | {} | {} | {ratio:.2} |",
+        time(nested),
+        time(flat)
+    );
+}
+
+/// A time to three figures in the unit that suits it.
+fn time(nanoseconds: f64) -> String {
+    let (value, unit) = match nanoseconds {
+        ns if ns < 1e3 => (ns, "ns"),
+        ns if ns < 1e6 => (ns / 1e3, "µs"),
+        ns => (ns / 1e6, "ms"),
+    };
+    let digits = match value {
+        value if value < 10.0 => 2,
+        value if value < 100.0 => 1,
+        _ => 0,
+    };
+    format!("{value:.digits$} {unit}")
+}

@@ -1,0 +1,80 @@
+//! Time per call: the best of many short rounds, since other work on the
+//! machine can only add to it.
+
+use reference::entries;
+use std::hint::black_box;
+use std::time::{Duration, Instant};
+use tools::call::{Answerer, Call, Entry};
+use tools::proved::Proved;
+
+const ROUNDS: usize = 61;
+/// How long a round lasts at least: short enough that some round goes by
+/// without the machine turning to other work.
+const ROUND: Duration = Duration::from_millis(3);
+
+/// Nanoseconds for each of two calls. Their rounds take turns, so that a slow
+/// spell of the machine meets both.
+pub fn in_turn(mut one: impl FnMut(), mut other: impl FnMut()) -> (f64, f64) {
+    let (ones, others) = (calls_in_a_round(&mut one), calls_in_a_round(&mut other));
+    let mut best = (f64::INFINITY, f64::INFINITY);
+    for _ in 0..ROUNDS {
+        best.0 = best.0.min(per_call(&mut one, ones));
+        best.1 = best.1.min(per_call(&mut other, others));
+    }
+    best
+}
+
+fn per_call(call: &mut impl FnMut(), calls: u32) -> f64 {
+    let start = Instant::now();
+    (0..calls).for_each(|_| call());
+    start.elapsed().as_secs_f64() * 1e9 / f64::from(calls)
+}
+
+/// Doubles the calls until they fill a round, which also warms the caches.
+fn calls_in_a_round(call: &mut impl FnMut()) -> u32 {
+    let mut calls = 1;
+    loop {
+        let start = Instant::now();
+        (0..calls).for_each(|_| call());
+        if start.elapsed() >= ROUND {
+            return calls;
+        }
+        calls *= 2;
+    }
+}
+
+/// The call, ready to be put to the proved code. A refused one does too little
+/// to be worth measuring.
+pub fn proved(call: &Call) -> Result<impl FnMut() + '_, String> {
+    let mut lent = vec![0; call.lent];
+    let mut outs = [0; 2];
+    match Proved.answer(call, &mut lent, &mut outs) {
+        0 => Ok(move || keep(Proved.answer(black_box(call), &mut lent, &mut outs))),
+        number => Err(format!("{} is refused as {number}", call.entry.name())),
+    }
+}
+
+/// The call, ready to be put to the reference.
+pub fn reference(call: &Call) -> impl FnMut() + '_ {
+    let mut lent = vec![0; call.lent];
+    move || {
+        let Call {
+            schema,
+            query,
+            view,
+            state,
+            ..
+        } = black_box(call);
+        match call.entry {
+            Entry::Select => keep(entries::select(schema, query, state, &mut lent)),
+            Entry::Legal => keep(entries::legal(schema, state)),
+            Entry::Counterexample => keep(entries::counterexample(schema, query, view, state)),
+            Entry::Decide => keep(entries::decide(schema, query, view, lent.len())),
+        }
+    }
+}
+
+/// Makes the compiler work the answer out although nothing uses it.
+fn keep<T>(answer: T) {
+    black_box(answer);
+}

@@ -1,0 +1,79 @@
+//! Damaged records at each place of each entry.
+
+use crate::verify::{verify, Difference};
+use std::fmt;
+use tools::call::{Answerer, Call, Entry};
+use tools::draw::damage::damage;
+use tools::draw::state;
+use tools::draw::triple::Triple;
+use tools::prng::Prng;
+use tools::record::DECIDE_WORDS;
+
+/// The highest number of a refusal.
+const REFUSALS: usize = 11;
+
+/// How many calls got each number; 0 is damage that did no harm.
+#[derive(Default)]
+pub struct Tally {
+    pub numbers: [usize; REFUSALS + 1],
+}
+
+impl Tally {
+    pub fn calls(&self) -> usize {
+        self.numbers.iter().sum()
+    }
+}
+
+impl fmt::Display for Tally {
+    fn fmt(&self, f: &mut fmt::Formatter) -> fmt::Result {
+        let [harmless, refused @ ..] = &self.numbers;
+        write!(f, "damaged records: harmless {harmless}")?;
+        for (number, calls) in (1..).zip(refused) {
+            write!(f, ", refused as {number} {calls}")?;
+        }
+        Ok(())
+    }
+}
+
+/// Verifies at least `count` calls, as many for each place of each entry.
+pub fn run(tested: &dyn Answerer, prng: &mut Prng, count: usize) -> Result<Tally, Box<Difference>> {
+    let mut tally = Tally::default();
+    while tally.calls() < count {
+        let triple = Triple::random(prng);
+        for entry in Entry::ALL {
+            let call = sound(prng, entry, &triple);
+            for first in 0..entry.places().len() {
+                let mut call = call.clone();
+                break_from(prng, &mut call, first);
+                let outcome = verify(tested, &call)?;
+                tally.numbers[usize::from(outcome.number)] += 1;
+            }
+        }
+    }
+    Ok(tally)
+}
+
+/// A call that is not refused, with no lent word to spare.
+fn sound(prng: &mut Prng, entry: Entry, triple: &Triple) -> Call {
+    let (schema, query) = triple.decoded();
+    let state = state::state(prng, triple.alphabet, &schema, &query);
+    let lent = match entry {
+        Entry::Decide => DECIDE_WORDS,
+        _ => state.objects,
+    };
+    triple.call(entry, state.words(), lent)
+}
+
+/// Damages one place, and now and then each later one as well, since the first
+/// refusal must win.
+fn break_from(prng: &mut Prng, call: &mut Call, first: usize) {
+    let [place, later @ ..] = &call.entry.places()[first..] else {
+        return;
+    };
+    damage(prng, call, *place);
+    if prng.chance(25) {
+        for &place in later {
+            damage(prng, call, place);
+        }
+    }
+}

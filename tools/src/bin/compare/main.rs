@@ -1,0 +1,76 @@
+//! Holds the built code to the reference on random and damaged inputs. The one
+//! argument is a seed; without it the seed is 1. The first difference found is
+//! made small, printed with its words, and ends the program with 1.
+
+mod damaged;
+mod outcome;
+mod report;
+mod shrink;
+mod states;
+mod triples;
+mod verify;
+
+#[cfg(test)]
+mod tests;
+
+use report::report;
+use shrink::shrink;
+use std::process::ExitCode;
+use tools::call::Call;
+use tools::prng::Prng;
+use tools::proved::Proved;
+use verify::{verify, Difference};
+
+const SEED: u64 = 1;
+const TRIPLES: usize = 60_000;
+const STATES: usize = 40_000;
+const DAMAGED: usize = 60_000;
+
+fn main() -> ExitCode {
+    let seed = match std::env::args().nth(1).map(|argument| argument.parse()) {
+        None => SEED,
+        Some(Ok(seed)) => seed,
+        Some(Err(_)) => {
+            eprintln!("compare: the seed is not a number");
+            return ExitCode::FAILURE;
+        }
+    };
+    match compare(seed) {
+        Ok(()) => ExitCode::SUCCESS,
+        Err(difference) => {
+            println!("compare: seed {seed}, a difference");
+            report(&smallest(difference));
+            ExitCode::FAILURE
+        }
+    }
+}
+
+/// The difference in the smallest call that still has one.
+fn smallest(difference: Box<Difference>) -> Box<Difference> {
+    let differs = |call: &Call| verify(&Proved, call).is_err();
+    let call = shrink(difference.call.clone(), &differs);
+    verify(&Proved, &call).err().unwrap_or(difference)
+}
+
+/// The three comparisons.
+fn compare(seed: u64) -> Result<(), Box<Difference>> {
+    println!("compare: seed {seed}");
+    let mut prng = Prng::new(seed);
+    let triples = triples::run(&Proved, &mut prng.split(), TRIPLES)?;
+    println!("{triples}");
+    let states = states::run(&Proved, &mut prng.split(), STATES)?;
+    println!("{states}");
+    let damaged = damaged::run(&Proved, &mut prng.split(), DAMAGED)?;
+    println!("{damaged}");
+    println!(
+        "compare: seed {seed}, {} triples (held {}, open {}), {} states (legal {}), \
+         {} damaged records: no difference",
+        triples.triples(),
+        triples.held(),
+        triples.open(),
+        states.states,
+        states.legal,
+        damaged.calls()
+    );
+    Ok(())
+}

@@ -1,0 +1,90 @@
+//! What a call leaves behind, and what the reference says it must leave.
+
+use reference::calculus::Verdict;
+use reference::entries::{self, Counterexample, Legality};
+use tools::call::{Answerer, Call, Entry};
+
+/// Words after the lent ones, which nothing may touch.
+const GUARD: usize = 4;
+const UNTOUCHED: u64 = 0xBEEF_0000_BEEF;
+
+/// The number returned, the out values, and the lent words with the guard.
+#[derive(Clone, Debug, PartialEq, Eq)]
+pub struct Outcome {
+    pub number: u16,
+    pub outs: [u64; 2],
+    pub words: Vec<u16>,
+}
+
+/// What must come of a call. Of an open verdict the papers leave the state and
+/// its two numbers free.
+pub enum Expected {
+    Exactly(Outcome),
+    Open,
+}
+
+impl Outcome {
+    /// A call that alters nothing. The words differ from each other, so that
+    /// moved ones are seen as well.
+    pub fn untouched(call: &Call) -> Self {
+        let places = 0..call.lent + GUARD;
+        Outcome {
+            number: 0,
+            outs: [UNTOUCHED; 2],
+            words: places
+                .map(|place| (place as u16).wrapping_mul(40_503) ^ 0xBEEF)
+                .collect(),
+        }
+    }
+
+    /// What the answerer leaves behind.
+    pub fn of(tested: &dyn Answerer, call: &Call) -> Self {
+        let mut outcome = Outcome::untouched(call);
+        let lent = &mut outcome.words[..call.lent];
+        outcome.number = tested.answer(call, lent, &mut outcome.outs);
+        outcome
+    }
+
+    fn with(mut self, answer: Result<u64, u16>) -> Self {
+        match answer {
+            Ok(value) => self.outs[0] = value,
+            Err(number) => self.number = number,
+        }
+        self
+    }
+}
+
+/// What the reference answers.
+pub fn expected(call: &Call) -> Expected {
+    let mut outcome = Outcome::untouched(call);
+    let Call {
+        schema,
+        query,
+        view,
+        state,
+        ..
+    } = call;
+    let answer = match call.entry {
+        Entry::Select => {
+            let lent = &mut outcome.words[..call.lent];
+            entries::select(schema, query, state, lent).map(u64::from)
+        }
+        Entry::Legal => entries::legal(schema, state).map(|legality| match legality {
+            Legality::Legal => 0,
+            Legality::Broken(place) => u64::from(place) + 1,
+        }),
+        Entry::Counterexample => {
+            let answer = entries::counterexample(schema, query, view, state);
+            answer.map(|answer| match answer {
+                Counterexample::No => 0,
+                Counterexample::Yes(object) => u64::from(object) + 1,
+            })
+        }
+        Entry::Decide => match entries::decide(schema, query, view, call.lent) {
+            Ok(Verdict::Open) => return Expected::Open,
+            Ok(Verdict::Held) => Ok(0),
+            Err(number) => Err(number),
+        },
+    };
+    Expected::Exactly(outcome.with(answer))
+}

@@ -1,0 +1,164 @@
+//! Makes a call that is answered wrongly smaller, as long as it still is.
+
+use std::ops::Range;
+use std::time::{Duration, Instant};
+use tools::call::{Call, Place};
+use tools::record::token::EVERYTHING;
+use tools::record::{self, Layout, Pair};
+
+/// How long smaller calls are looked for.
+const PATIENCE: Duration = Duration::from_secs(15);
+
+/// A smaller call that differs. Given time, none of the attempts below makes it
+/// smaller still.
+pub fn shrink(call: Call, differs: &dyn Fn(&Call) -> bool) -> Call {
+    let mut shrinker = Shrinker {
+        call,
+        differs,
+        end: Instant::now() + PATIENCE,
+    };
+    while shrinker.pass() {}
+    shrinker.call
+}
+
+struct Shrinker<'a> {
+    call: Call,
+    differs: &'a dyn Fn(&Call) -> bool,
+    end: Instant,
+}
+
+impl Shrinker<'_> {
+    /// Each attempt at each place once; tells whether any helped.
+    fn pass(&mut self) -> bool {
+        let mut helped = false;
+        for &place in self.call.entry.places() {
+            helped |= match place {
+                Place::Schema | Place::State => self.drop_parts(place),
+                Place::Query | Place::View => self.replace_tokens(place),
+                Place::Lent => self.lend_fewer(),
+            };
+            helped |= self.drop_words(place) | self.lower_words(place);
+        }
+        helped
+    }
+
+    /// Takes the record if the call then still differs.
+    fn take(&mut self, place: Place, words: Vec<u16>) -> bool {
+        let mut call = self.call.clone();
+        match call.record_mut(place) {
+            Some(record) => *record = words,
+            None => return false,
+        }
+        self.take_call(call)
+    }
+
+    fn take_call(&mut self, call: Call) -> bool {
+        let taken = Instant::now() < self.end && (self.differs)(&call);
+        if taken {
+            self.call = call;
+        }
+        taken
+    }
+
+    fn words(&self, place: Place) -> Vec<u16> {
+        self.call.record(place).unwrap_or_default().to_vec()
+    }
+
+    fn parts(&self, place: Place) -> Option<(&'static Layout, Vec<Pair>)> {
+        let layout = place.layout()?;
+        let parts = layout.parts(self.call.record(place)?)?;
+        Some((layout, parts))
+    }
+
+    /// Drops runs of axioms or facts: halves first, single ones last.
+    fn drop_parts(&mut self, place: Place) -> bool {
+        let count = |shrinker: &Self| shrinker.parts(place).map_or(0, |(_, parts)| parts.len());
+        let mut helped = false;
+        let mut run = count(self);
+        while run > 0 {
+            let mut at = 0;
+            while at < count(self) {
+                let dropped = self.drop_run(place, at, run);
+                helped |= dropped;
+                at += if dropped { 0 } else { run };
+            }
+            run /= 2;
+        }
+        helped
+    }
+
+    fn drop_run(&mut self, place: Place, at: usize, run: usize) -> bool {
+        let Some((layout, mut parts)) = self.parts(place) else {
+            return false;
+        };
+        parts.drain(at..parts.len().min(at + run));
+        let words = layout.record(&self.words(place), &parts);
+        self.take(place, words)
+    }
+
+    /// Puts nothing, or one leaf, for a run of tokens: long runs first.
+    fn replace_tokens(&mut self, place: Place) -> bool {
+        let mut helped = false;
+        let most = self.parts(place).map_or(0, |(_, tokens)| tokens.len());
+        for run in (1..=most).rev() {
+            let mut at = 0;
+            while let Some((_, tokens)) = self.parts(place) {
+                if at + run > tokens.len() {
+                    break;
+                }
+                helped |= self.replace_run(place, &tokens, at..at + run);
+                at += 1;
+            }
+        }
+        helped
+    }
+
+    /// The leaf is "everything" or one that stands in the run.
+    fn replace_run(&mut self, place: Place, tokens: &[Pair], run: Range<usize>) -> bool {
+        let own = tokens[run.clone()].iter().filter(|(sort, _)| *sort <= 3);
+        let leaves = [EVERYTHING].into_iter().chain(own.copied());
+        let mut parts = vec![Vec::new()];
+        parts.extend(leaves.map(|leaf| vec![leaf]));
+        parts.into_iter().any(|part| {
+            let shorter = part.len() < run.len();
+            let mut tokens = tokens.to_vec();
+            tokens.splice(run.clone(), part);
+            shorter && self.take(place, record::concept(&tokens))
+        })
+    }
+
+    /// Drops single words, which only a damaged record can spare.
+    fn drop_words(&mut self, place: Place) -> bool {
+        let mut helped = false;
+        for at in (0..self.words(place).len()).rev() {
+            let mut words = self.words(place);
+            words.remove(at);
+            helped |= self.take(place, words);
+        }
+        helped
+    }
+
+    /// Puts 0 for a word, or one less than it.
+    fn lower_words(&mut self, place: Place) -> bool {
+        let mut helped = false;
+        for at in 0..self.words(place).len() {
+            let word = self.words(place)[at];
+            for lower in [0, word / 256 * 256, word.saturating_sub(1)] {
+                let mut words = self.words(place);
+                let lowers = lower < words[at];
+                words[at] = lower;
+                helped |= lowers && self.take(place, words);
+            }
+        }
+        helped
+    }
+
+    fn lend_fewer(&mut self) -> bool {
+        let lent = self.call.lent;
+        [0, lent / 2, lent.saturating_sub(1)].iter().any(|&fewer| {
+            let mut call = self.call.clone();
+            call.lent = fewer;
+            fewer < lent && self.take_call(call)
+        })
+    }
+}

@@ -1,0 +1,31 @@
+//! Tests of the comparison itself: it finds wrong answers, and finds them in
+//! small calls, on inputs that are worth comparing on.
+
+mod misread;
+mod mixes;
+mod smallest;
+mod spoilt;
+
+use crate::verify::Difference;
+use crate::{damaged, states, triples};
+use tools::call::Answerer;
+use tools::prng::Prng;
+
+const SEED: u64 = 3;
+const CALLS: usize = 3_000;
+
+/// What the comparison of verdicts finds with a wrong answerer.
+fn triple_difference(wrong: &dyn Answerer) -> Box<Difference> {
+    let run = triples::run(wrong, &mut Prng::new(SEED), CALLS);
+    run.err().expect("a wrong verdict")
+}
+
+fn state_difference(wrong: &dyn Answerer) -> Box<Difference> {
+    let run = states::run(wrong, &mut Prng::new(SEED), CALLS);
+    run.err().expect("a wrong judgement")
+}
+
+fn damage_difference(wrong: &dyn Answerer) -> Box<Difference> {
+    let run = damaged::run(wrong, &mut Prng::new(SEED), CALLS);
+    run.err().expect("a wrong refusal")
+}

@@ -1,0 +1,31 @@
+//! Tests that the inputs are worth comparing on: a comparison that never meets
+//! an answer says nothing of it.
+
+use crate::{damaged, states, triples};
+use tools::prng::Prng;
+use tools::proved::Proved;
+
+const SEED: u64 = 7;
+
+/// Between 30 and 70 percent.
+fn is_balanced(part: usize, all: usize) -> bool {
+    (all * 30..=all * 70).contains(&(part * 100))
+}
+
+#[test]
+fn held_and_open_are_both_common() {
+    let tally = triples::run(&Proved, &mut Prng::new(SEED), 4_000).expect("no difference");
+    assert!(is_balanced(tally.held(), tally.triples()), "{tally}");
+}
+
+#[test]
+fn legal_and_illegal_states_are_both_common() {
+    let tally = states::run(&Proved, &mut Prng::new(SEED), 2_000).expect("no difference");
+    assert!(is_balanced(tally.legal, tally.states), "{tally}");
+}
+
+#[test]
+fn every_refusal_comes_up() {
+    let tally = damaged::run(&Proved, &mut Prng::new(SEED), 4_000).expect("no difference");
+    assert!(tally.numbers.iter().all(|&calls| calls >= 10), "{tally}");
+}

@@ -1,0 +1,212 @@
+//! Wrong answers, each the proved code's with one thing spoilt.
+
+use super::{damage_difference, state_difference, triple_difference};
+use tools::call::{Answerer, Call, Entry};
+use tools::proved::Proved;
+use tools::record::{fact, STATE};
+
+/// What the proved code left of a call, to be spoilt.
+pub struct Answer<'a> {
+    pub entry: Entry,
+    pub objects: usize,
+    /// The lent words as they were before.
+    pub before: Vec<u16>,
+    pub lent: &'a mut [u16],
+    pub outs: &'a mut [u64; 2],
+    pub number: u16,
+}
+
+pub type Spoil = fn(&mut Answer);
+
+pub struct Spoilt(pub Spoil);
+
+impl Answerer for Spoilt {
+    fn answer(&self, call: &Call, lent: &mut [u16], outs: &mut [u64; 2]) -> u16 {
+        let before = lent.to_vec();
+        let number = Proved.answer(call, lent, outs);
+        let mut answer = Answer {
+            entry: call.entry,
+            objects: call.state.first().copied().unwrap_or(0).into(),
+            before,
+            lent,
+            outs,
+            number,
+        };
+        (self.0)(&mut answer);
+        answer.number
+    }
+}
+
+impl Answer<'_> {
+    fn is_open(&self) -> bool {
+        self.number == 0 && self.outs[0] > 0
+    }
+
+    /// How many words the written state has.
+    fn written(&self) -> usize {
+        2 + 2 * usize::from(self.lent[1])
+    }
+}
+
+#[test]
+fn held_to_all() {
+    let found = triple_difference(&Spoilt(|answer| {
+        answer.lent.copy_from_slice(&answer.before);
+        answer.outs[0] = 0;
+    }));
+    assert_eq!(found.fault, "held and not open");
+}
+
+#[test]
+fn open_with_one_stock_state() {
+    triple_difference(&Spoilt(|answer| {
+        answer.lent[..2].copy_from_slice(&[1, 0]);
+        *answer.outs = [1, 0];
+    }));
+}
+
+#[test]
+fn a_state_without_its_last_class_fact() {
+    let found = triple_difference(&Spoilt(|answer| {
+        if !answer.is_open() {
+            return;
+        }
+        let written = answer.lent[..answer.written()].to_vec();
+        let mut facts = STATE.parts(&written).expect("a written state");
+        let is_member = |&part: &_| fact::kind(part) < fact::ATTRIBUTES;
+        if let Some(last) = facts.iter().rposition(is_member) {
+            facts.remove(last);
+        }
+        let fewer = STATE.record(&written, &facts);
+        answer.lent.copy_from_slice(&answer.before);
+        answer.lent[..fewer.len()].copy_from_slice(&fewer);
+    }));
+    assert!(!found.fault.starts_with("lent word"), "{}", found.fault);
+}
+
+#[test]
+fn another_size() {
+    let found = triple_difference(&Spoilt(|answer| {
+        answer.outs[0] += u64::from(answer.is_open());
+    }));
+    assert!(found.fault.starts_with("N is "), "{}", found.fault);
+}
+
+#[test]
+fn another_object() {
+    triple_difference(&Spoilt(|answer| {
+        if answer.is_open() {
+            answer.outs[1] = (answer.outs[1] + 1) % answer.outs[0];
+        }
+    }));
+}
+
+#[test]
+fn a_word_after_the_state() {
+    let found = triple_difference(&Spoilt(|answer| {
+        if answer.is_open() {
+            answer.lent[answer.written()] ^= 1;
+        }
+    }));
+    assert!(found.fault.starts_with("lent word "), "{}", found.fault);
+}
+
+#[test]
+fn the_last_lent_word_of_a_held_triple() {
+    let found = triple_difference(&Spoilt(|answer| {
+        if !answer.is_open() {
+            answer.lent[30_761] ^= 1;
+        }
+    }));
+    let fault = found.fault;
+    assert!(fault.starts_with("lent word 30761 "), "{fault}");
+}
+
+#[test]
+fn an_invented_count() {
+    state_difference(&Spoilt(|answer| {
+        answer.outs[0] += u64::from(answer.entry == Entry::Select);
+    }));
+}
+
+#[test]
+fn marks_left_as_they_were() {
+    state_difference(&Spoilt(|answer| {
+        if answer.entry == Entry::Select {
+            answer.lent.copy_from_slice(&answer.before);
+        }
+    }));
+}
+
+#[test]
+fn a_word_after_the_marks() {
+    state_difference(&Spoilt(|answer| {
+        if answer.entry == Entry::Select {
+            answer.lent[answer.objects..].fill(0);
+        }
+    }));
+}
+
+#[test]
+fn legal_to_all() {
+    state_difference(&Spoilt(|answer| {
+        if answer.entry == Entry::Legal {
+            answer.outs[0] = 0;
+        }
+    }));
+}
+
+#[test]
+fn another_axiom() {
+    state_difference(&Spoilt(|answer| {
+        if answer.entry == Entry::Legal && answer.outs[0] > 1 {
+            answer.outs[0] -= 1;
+        }
+    }));
+}
+
+#[test]
+fn a_counterexample_where_there_is_none() {
+    state_difference(&Spoilt(|answer| {
+        if answer.entry == Entry::Counterexample && answer.outs[0] == 0 {
+            answer.outs[0] = 1;
+        }
+    }));
+}
+
+#[test]
+fn not_the_lowest_object() {
+    state_difference(&Spoilt(|answer| {
+        if answer.entry == Entry::Counterexample && answer.outs[0] > 0 {
+            answer.outs[0] += 1;
+        }
+    }));
+}
+
+#[test]
+fn one_refusal_taken_for_another() {
+    let found = damage_difference(&Spoilt(|answer| {
+        if answer.number == 10 {
+            answer.number = 9;
+        }
+    }));
+    assert_eq!(found.fault, "returned 9 and not 10");
+}
+
+#[test]
+fn an_out_value_of_a_refused_call() {
+    damage_difference(&Spoilt(|answer| {
+        if answer.number == 11 && answer.entry == Entry::Decide {
+            answer.outs[1] = 0;
+        }
+    }));
+}
+
+#[test]
+fn a_lent_word_of_a_refused_call() {
+    damage_difference(&Spoilt(|answer| {
+        if answer.number == 6 && answer.entry == Entry::Select {
+            answer.lent.fill(0);
+        }
+    }));
+}

@@ -1,0 +1,113 @@
+//! A call of an entry, as the words that are passed.
+
+use crate::record::{Layout, CONCEPT, SCHEMA, STATE};
+
+#[derive(Clone, Copy, Debug, PartialEq, Eq)]
+pub enum Entry {
+    Select,
+    Legal,
+    Counterexample,
+    Decide,
+}
+
+/// What a caller passes, in the order in which it is checked.
+#[derive(Clone, Copy, Debug, PartialEq, Eq)]
+pub enum Place {
+    Schema,
+    Query,
+    View,
+    State,
+    Lent,
+}
+
+impl Entry {
+    pub const ALL: [Entry; 4] = [
+        Entry::Select,
+        Entry::Legal,
+        Entry::Counterexample,
+        Entry::Decide,
+    ];
+
+    pub fn places(self) -> &'static [Place] {
+        use Place::{Lent, Query, Schema, State, View};
+        match self {
+            Entry::Select => &[Schema, Query, State, Lent],
+            Entry::Legal => &[Schema, State],
+            Entry::Counterexample => &[Schema, Query, View, State],
+            Entry::Decide => &[Schema, Query, View, Lent],
+        }
+    }
+
+    pub fn name(self) -> &'static str {
+        match self {
+            Entry::Select => "select",
+            Entry::Legal => "legal",
+            Entry::Counterexample => "counterexample",
+            Entry::Decide => "decide",
+        }
+    }
+}
+
+impl Place {
+    /// How the place's record is laid out; lent words have no layout.
+    pub fn layout(self) -> Option<&'static Layout> {
+        match self {
+            Place::Schema => Some(&SCHEMA),
+            Place::Query | Place::View => Some(&CONCEPT),
+            Place::State => Some(&STATE),
+            Place::Lent => None,
+        }
+    }
+
+    pub fn name(self) -> &'static str {
+        match self {
+            Place::Schema => "schema",
+            Place::Query => "query",
+            Place::View => "view",
+            Place::State => "state",
+            Place::Lent => "lent",
+        }
+    }
+}
+
+/// A call; what its entry does not take is not looked at. Select's concept
+/// stands in the place of the query, whose step limit it has.
+#[derive(Clone, Debug)]
+pub struct Call {
+    pub entry: Entry,
+    pub schema: Vec<u16>,
+    pub query: Vec<u16>,
+    pub view: Vec<u16>,
+    pub state: Vec<u16>,
+    /// How many words are lent.
+    pub lent: usize,
+}
+
+impl Call {
+    /// The record at a place; lent words are none.
+    pub fn record(&self, place: Place) -> Option<&[u16]> {
+        match place {
+            Place::Schema => Some(&self.schema),
+            Place::Query => Some(&self.query),
+            Place::View => Some(&self.view),
+            Place::State => Some(&self.state),
+            Place::Lent => None,
+        }
+    }
+
+    pub fn record_mut(&mut self, place: Place) -> Option<&mut Vec<u16>> {
+        match place {
+            Place::Schema => Some(&mut self.schema),
+            Place::Query => Some(&mut self.query),
+            Place::View => Some(&mut self.view),
+            Place::State => Some(&mut self.state),
+            Place::Lent => None,
+        }
+    }
+}
+
+/// Code that answers calls as include/bikuvoa.h says.
+pub trait Answerer {
+    /// Returns 0 or the refusal's number. Only decide has a second out value.
+    fn answer(&self, call: &Call, lent: &mut [u16], outs: &mut [u64; 2]) -> u16;
+}

@@ -1,0 +1,101 @@
+//! What is drawn is what it is said to be.
+
+use super::repair::{model, Values};
+use super::triple::Triple;
+use super::{state, wide};
+use crate::prng::Prng;
+use crate::record;
+use reference::entries::{decide, legal, select, DECIDE_WORDS};
+use reference::records;
+use reference::semantics::{first_broken, selected};
+
+const DRAWS: usize = 2_000;
+
+fn assert_accepted(triple: &Triple) {
+    let call = triple.decide_call();
+    let verdict = decide(&call.schema, &call.query, &call.view, DECIDE_WORDS);
+    assert!(verdict.is_ok(), "{verdict:?} of {triple:?}");
+}
+
+#[test]
+fn triples_are_accepted() {
+    let mut prng = Prng::new(31);
+    for _ in 0..DRAWS {
+        assert_accepted(&Triple::random(&mut prng));
+        let followed = Triple::followed(&mut prng);
+        assert_accepted(&followed);
+        assert_accepted(&followed.near_miss(&mut prng));
+    }
+    for _ in 0..20 {
+        assert_accepted(&wide::triple(&mut prng));
+    }
+}
+
+#[test]
+fn states_are_accepted() {
+    let mut prng = Prng::new(32);
+    for _ in 0..DRAWS {
+        let triple = Triple::random(&mut prng);
+        let (schema, query) = triple.decoded();
+        let state = state::state(&mut prng, triple.alphabet, &schema, &query);
+        let answer = legal(&triple.schema_words(), &state.words());
+        assert!(answer.is_ok(), "{answer:?} of {state:?}");
+    }
+}
+
+#[test]
+fn models_are_legal_and_have_the_query() {
+    let mut prng = Prng::new(33);
+    let mut models = 0;
+    for _ in 0..DRAWS {
+        let triple = Triple::random(&mut prng);
+        let (schema, query) = triple.decoded();
+        let values = prng.one_of([Values::New, Values::Any]);
+        let Ok((sketch, _)) = model(triple.alphabet, &schema, &query, values, &mut prng) else {
+            continue;
+        };
+        let words = sketch.state(&mut prng).words();
+        let state = records::state(&words, &schema).expect("an accepted state");
+        assert_eq!(first_broken(&schema, &state), None, "{triple:?}");
+        assert!(selected(&state, &query).contains(&true), "{triple:?}");
+        models += 1;
+    }
+    assert!(models * 2 > DRAWS, "{models} models");
+}
+
+/// A second walk to the same end is not always met, so most concepts and not
+/// all of them have an object of the sketch that they were read off.
+#[test]
+fn concepts_read_off_a_model_have_its_object() {
+    let mut prng = Prng::new(34);
+    let (mut drawn, mut missed) = (0, 0);
+    for _ in 0..DRAWS {
+        let triple = Triple::random(&mut prng);
+        let (schema, query) = triple.decoded();
+        let model = model(triple.alphabet, &schema, &query, Values::Any, &mut prng);
+        let Ok((sketch, start)) = model else {
+            continue;
+        };
+        let view = super::witness::tokens(&mut prng, &sketch, start, record::VIEW_STEPS, 20);
+        let state = sketch.state(&mut prng);
+        let mut marks = vec![0; state.objects];
+        let words = (triple.schema_words(), record::concept(&view), state.words());
+        let count = select(&words.0, &words.1, &words.2, &mut marks);
+        drawn += 1;
+        missed += usize::from(count == Ok(0));
+    }
+    assert!(missed * 20 < drawn, "{missed} of {drawn}");
+}
+
+#[test]
+fn the_full_state_has_all_facts() {
+    let mut prng = Prng::new(35);
+    let alphabet = record::Alphabet {
+        classes: record::MOST_CLASSES,
+        attributes: record::MOST_ATTRIBUTES,
+        constants: record::MOST_CONSTANTS,
+    };
+    let state = state::full(&mut prng, alphabet);
+    assert_eq!(state.facts.len(), record::MOST_FACTS);
+    assert_eq!(state.words().len(), record::DECIDE_WORDS);
+}

@@ -1,0 +1,140 @@
+//! Random triples of schema, query and view, whose records are accepted.
+
+use super::repair::{model, Values};
+use super::{concept, schema, witness, Scale};
+use crate::call::{Call, Entry};
+use crate::prng::Prng;
+use crate::record::token::{self, BACKWARD, BOTH, EVERYTHING, FORWARD};
+use crate::record::{self, Alphabet, Pair, DECIDE_WORDS, MOST_TOKENS, QUERY_STEPS, VIEW_STEPS};
+use reference::records;
+use reference::syntax::{Concept, Schema};
+
+/// How often a token that comes out as it was is drawn again.
+const TRIES: usize = 4;
+
+/// A triple as the parts of its records.
+#[derive(Clone, Debug)]
+pub struct Triple {
+    pub alphabet: Alphabet,
+    pub axioms: Vec<Pair>,
+    pub query: Vec<Pair>,
+    pub view: Vec<Pair>,
+}
+
+impl Triple {
+    /// A query and a view that have nothing to do with each other.
+    pub fn random(prng: &mut Prng) -> Self {
+        let scale = Scale::draw(prng);
+        Triple::random_at(prng, scale)
+    }
+
+    fn random_at(prng: &mut Prng, scale: Scale) -> Self {
+        let alphabet = schema::alphabet(prng, scale);
+        Triple {
+            alphabet,
+            axioms: schema::axioms(prng, alphabet, scale),
+            query: concept::tokens(prng, alphabet, QUERY_STEPS, scale),
+            view: concept::tokens(prng, alphabet, VIEW_STEPS, scale),
+        }
+    }
+
+    /// A view read off a legal state that was made for the query. It is often
+    /// held, and then by following the axioms; where the state has more than
+    /// they force, it is often just missed.
+    pub fn followed(prng: &mut Prng) -> Self {
+        let scale = Scale::draw(prng);
+        let mut triple = Triple::random_at(prng, scale);
+        triple.ask_for_class(prng);
+        let values = prng.one_of([Values::New, Values::Any]);
+        let (schema, query) = triple.decoded();
+        if let Ok((sketch, start)) = model(triple.alphabet, &schema, &query, values, prng) {
+            let budget = concept::budget(prng, scale);
+            triple.view = witness::tokens(prng, &sketch, start, VIEW_STEPS, budget);
+        }
+        triple
+    }
+
+    /// Also asks the query's object for a class, so that axioms have a hold on
+    /// it.
+    fn ask_for_class(&mut self, prng: &mut Prng) {
+        if self.alphabet.classes > 0 && self.query.len() + 2 <= MOST_TOKENS {
+            let class = prng.word_below(self.alphabet.classes);
+            self.query.extend([token::class(class), BOTH]);
+        }
+    }
+
+    /// The triple without one axiom, or with one token altered.
+    pub fn near_miss(&self, prng: &mut Prng) -> Self {
+        let mut near = self.clone();
+        match prng.below(6) {
+            0..=1 if !near.axioms.is_empty() => {
+                near.axioms.remove(prng.below(near.axioms.len()));
+            }
+            2 => alter_token(prng, near.alphabet, &mut near.query),
+            _ => alter_token(prng, near.alphabet, &mut near.view),
+        }
+        near
+    }
+
+    pub fn schema_words(&self) -> Vec<u16> {
+        record::schema(self.alphabet, &self.axioms)
+    }
+
+    /// The schema and the query as the reference reads them.
+    pub fn decoded(&self) -> (Schema, Concept) {
+        let schema = records::schema(&self.schema_words()).expect("a drawn schema is accepted");
+        let query = record::concept(&self.query);
+        let query = records::concept(&query, &schema, records::QUERY_STEPS);
+        (schema, query.expect("a drawn query is accepted"))
+    }
+
+    /// The call that asks for the verdict.
+    pub fn decide_call(&self) -> Call {
+        self.call(Entry::Decide, Vec::new(), DECIDE_WORDS)
+    }
+
+    /// A call with the triple's records and a state's.
+    pub fn call(&self, entry: Entry, state: Vec<u16>, lent: usize) -> Call {
+        Call {
+            entry,
+            schema: self.schema_words(),
+            query: record::concept(&self.query),
+            view: record::concept(&self.view),
+            state,
+            lent,
+        }
+    }
+}
+
+/// Alters a leaf or a step. The other tokens hold the concept together and
+/// stay, and so may the only leaf of a small alphabet.
+fn alter_token(prng: &mut Prng, alphabet: Alphabet, tokens: &mut [Pair]) {
+    let open: Vec<usize> = (0..tokens.len())
+        .filter(|&place| matches!(tokens[place].0, 1..=3 | FORWARD | BACKWARD))
+        .collect();
+    for _ in 0..TRIES {
+        let Some(place) = prng.pick(&open) else {
+            return;
+        };
+        let other = other_token(prng, alphabet, tokens[place]);
+        if other != tokens[place] {
+            tokens[place] = other;
+            return;
+        }
+    }
+}
+
+/// A leaf that asks something for a leaf; a step turned round, or with any
+/// attribute.
+fn other_token(prng: &mut Prng, alphabet: Alphabet, token: Pair) -> Pair {
+    match token {
+        (FORWARD, attribute) if prng.chance(50) => (BACKWARD, attribute),
+        (BACKWARD, attribute) if prng.chance(50) => (FORWARD, attribute),
+        (sort @ (FORWARD | BACKWARD), _) => (sort, prng.word_below(alphabet.attributes)),
+        _ if alphabet.constants > 0 && prng.chance(20) => {
+            token::constant(prng.word_below(alphabet.constants))
+        }
+        _ if alphabet.classes > 0 => token::class(prng.word_below(alphabet.classes)),
+        _ => EVERYTHING,
+    }
+}
