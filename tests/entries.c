@@ -1,5 +1,6 @@
-/* The judging entries, called from C through include/bikuvoa.h: document 01's twelve small states, every refusal that each
- * entry has, alone and with later faults beside it, and a state at the limits. Not proved; it prints how many checks passed. */
+/* The entries, called from C through include/bikuvoa.h: document 01's twelve small states, a triple of each verdict, every
+ * refusal that each entry has, alone and with later faults beside it, and a state at the limits. Not proved; it prints how
+ * many checks passed. */
 #include "bikuvoa.h"
 #include <stdio.h>
 #include <stdlib.h>
@@ -100,30 +101,57 @@ static Record record_at(int p, int faulty, int n) {
     return BAD_CONCEPTS[n];
 }
 
-static int call(int entry, const Record *r, uint16_t *lent, uint64_t *out) {
-    if (entry == 0)
+enum { SELECT, LEGAL, COUNTEREXAMPLE, DECIDE, ENTRIES };
+static const int HAS[ENTRIES][PLACES] = {{1, 1, 0, 1, 1}, {1, 0, 0, 1, 0}, {1, 1, 1, 1, 0}, {1, 1, 1, 0, 1}};
+
+static int call(int entry, const Record *r, uint16_t *lent, uint64_t *out, uint64_t *second) {
+    if (entry == SELECT)
         return bikuvoa_select(r[SCHEMA].at, r[SCHEMA].words, r[QUERY].at, r[QUERY].words, r[STATE].at, r[STATE].words, lent,
                               r[LENT].words, out);
-    if (entry == 1) return bikuvoa_legal(r[SCHEMA].at, r[SCHEMA].words, r[STATE].at, r[STATE].words, out);
+    if (entry == DECIDE)
+        return bikuvoa_decide(r[SCHEMA].at, r[SCHEMA].words, r[QUERY].at, r[QUERY].words, r[VIEW].at, r[VIEW].words, lent,
+                              BIKUVOA_DECIDE_WORDS - 3 + r[LENT].words, out, second);
+    if (entry == LEGAL) return bikuvoa_legal(r[SCHEMA].at, r[SCHEMA].words, r[STATE].at, r[STATE].words, out);
     return bikuvoa_counterexample(r[SCHEMA].at, r[SCHEMA].words, r[QUERY].at, r[QUERY].words, r[VIEW].at, r[VIEW].words,
                                   r[STATE].at, r[STATE].words, out);
 }
 
+static int untouched(const uint16_t *lent) {
+    for (int i = 0; i < BIKUVOA_DECIDE_WORDS; i++)
+        if (lent[i] != UNTOUCHED) return 0;
+    return 1;
+}
+
 static void refusals(void) {
-    static const int has[3][PLACES] = {{1, 1, 0, 1, 1}, {1, 0, 0, 1, 0}, {1, 1, 1, 1, 0}};
-    for (int entry = 0; entry < 3; entry++)
+    static uint16_t lent[BIKUVOA_DECIDE_WORDS];
+    for (int i = 0; i < BIKUVOA_DECIDE_WORDS; i++) lent[i] = UNTOUCHED;
+    for (int entry = 0; entry < ENTRIES; entry++)
         for (int p = 0; p < PLACES; p++)
-            for (int n = 0; has[entry][p] && n < NUMBERS[p]; n++)
+            for (int n = 0; HAS[entry][p] && n < NUMBERS[p]; n++)
                 for (int later = 0; later < 2; later++) {
                     Record r[PLACES];
                     for (int q = 0; q < PLACES; q++) r[q] = record_at(q, q == p || (later && q > p), q == p ? n : 0);
-                    uint16_t lent[3] = {UNTOUCHED, UNTOUCHED, UNTOUCHED};
-                    uint64_t out = 99;
+                    uint64_t out = 99, second = 98;
                     int row = 1000 * entry + 100 * p + 10 * n + later;
-                    check(call(entry, r, lent, &out) == FIRST_NUMBER[p] + n, "refusal", row);
-                    check(out == 99, "an out value of a refused call", row);
-                    check(lent[0] == UNTOUCHED && lent[1] == UNTOUCHED && lent[2] == UNTOUCHED, "lent words of a refused call", row);
+                    check(call(entry, r, lent, &out, &second) == FIRST_NUMBER[p] + n, "refusal", row);
+                    check(out == 99 && second == 98, "an out value of a refused call", row);
+                    check(untouched(lent), "lent words of a refused call", row);
                 }
+}
+
+static void verdicts(void) {
+    static uint16_t lent[BIKUVOA_DECIDE_WORDS + 1];
+    uint64_t objects = 99, object = 98, found = 97;
+    for (int i = 0; i <= BIKUVOA_DECIDE_WORDS; i++) lent[i] = UNTOUCHED;
+    check(bikuvoa_decide(X.at, X.words, PERSON.at, PERSON.words, EVERYTHING.at, EVERYTHING.words, lent, BIKUVOA_DECIDE_WORDS,
+                         &objects, &object) == 0 && objects == 0 && object == 98, "held", 0);
+    check(untouched(lent), "lent words of held", 0);
+    check(bikuvoa_decide(X.at, X.words, EVERYTHING.at, EVERYTHING.words, PERSON.at, PERSON.words, lent, BIKUVOA_DECIDE_WORDS,
+                         &objects, &object) == 0 && 0 < objects && object < objects && lent[0] == objects, "open", 1);
+    size_t words = 2 + 2 * (size_t)lent[1];
+    check(bikuvoa_counterexample(X.at, X.words, EVERYTHING.at, EVERYTHING.words, PERSON.at, PERSON.words, lent, words, &found) == 0
+              && found == object + 1, "the written state", 1);
+    for (size_t i = words; i <= BIKUVOA_DECIDE_WORDS; i++) check(lent[i] == UNTOUCHED, "a word after the record", (int)i);
 }
 
 /* 480 objects in every class, each with itself as its value of every attribute, object 0 with 16 more values of attribute
@@ -174,6 +202,7 @@ static void limits(void) {
 int main(void) {
     twelve_states();
     counterexamples();
+    verdicts();
     refusals();
     limits();
     printf("entries from C: %d checks passed\n", passed);
