@@ -67,7 +67,7 @@ module _ (s : Signature) (w : List ℕ) (ok : AcceptedState s w) where
   left-rises : (f : ℕ) → suc f < entries stateLayout w → leftAt stateLayout w f ≤ leftAt stateLayout w (suc f)
   left-rises f l = ⊎-elim (λ t. omega arith) (λ t. le-of-eq (t .0)) (ascends-cases f l)
 
-  left-grows : (f g : ℕ) → f ≤ g → g < entries stateLayout w → leftAt stateLayout w f ≤ leftAt stateLayout w g
+  pub left-grows : (f g : ℕ) → f ≤ g → g < entries stateLayout w → leftAt stateLayout w f ≤ leftAt stateLayout w g
   left-grows f zero h l = le-of-eq (ap (leftAt stateLayout w) (omega arith))
   left-grows f (suc g) h l =
       ⊎-elim (λ e. le-of-eq (ap (leftAt stateLayout w) e)) (λ m. le-trans (left-grows f g (le-of-suc-le-suc m) (omega arith)) (left-rises g l))

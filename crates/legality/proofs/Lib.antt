@@ -1,4 +1,5 @@
 -- Laws that several proofs here share.
 mod FactLaws
 mod BreakLaws
+mod AskedLaws
 mod SearchLaws

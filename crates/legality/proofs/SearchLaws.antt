@@ -4,7 +4,7 @@ use Prim.Native.Nat.{ℕ, _+_, _≤_, _<_}
 use mathlib.Core.Bool.{Bool, false, So, not, _||_}
 use mathlib.Core.List.{List}
 use mathlib.Core.Path.{_≡_, sym, ap, subst}
-use native.Mathlib.Nat.{le-antisymm, le-of-lt}
+use native.Mathlib.Nat.{le-of-lt}
 use native.Mathlib.Omega.{arith}
 use borrow.Author.Tests.{ltb-true, ltb-false}
 use lib.Dec.{ltb}
@@ -15,17 +15,19 @@ use Rattle.records.specs.Finite.{any}
 use Rattle.records.specs.Schema.{Schema, Holds}
 use Rattle.records.specs.State.{State}
 use Rattle.records.specs.Executable.{holds, firstBroken}
-use Rattle.records.specs.Layout.{schemaLayout, stateLayout, entries, maxClasses, maxAttributes, maxConstants, maxAxioms}
+use Rattle.records.specs.Layout.{schemaLayout, stateLayout, entries, maxClasses, maxAttributes, maxConstants, maxAxioms, maxFacts}
 use Rattle.records.specs.SchemaRecord.{signatureOf, schemaOf}
 use Rattle.records.specs.StateRecord.{objects as objectsOf, stateOf}
 use Rattle.records.specs.Refusal.{declares, oversized, refusal-1}
 use Rattle.records.proofs.BoolLaws.{or-false-left, or-false-right, and-map, and-three-map, false-of, not-of-false}
-use Rattle.records.proofs.FiniteLaws.{any-zero, any-still, any-none, least-is}
+use Rattle.records.proofs.FiniteLaws.{any-zero, any-still, any-none, none-any, least-is}
 use Rattle.records.proofs.ExecutableLaws.{holds-iff}
-use Rattle.records.proofs.AcceptedLaws.{passes-1, passes-2, axiom-declared}
+use Rattle.records.proofs.AcceptedLaws.{passes-1, passes-2, passes-7, axiom-declared, facts-few}
 use Rattle.legality.specs.Legality.{Judged}
 use Rattle.legality.specs.Breaks.{Named, objectBreaks, pairBreaks}
+use Rattle.legality.specs.Asked.{objectsAsked, kindAsked, KindsRise, KindParts}
 use Rattle.legality.proofs.BreakLaws.{object-broken, pair-broken, unbroken}
+use Rattle.legality.proofs.AskedLaws.{objects-asked-few, objects-asked-all, pairs-before, pairs-after, kinds-rise}
 
 -- axiom i is broken
 abbrev pub brokenAt : Schema → State → ℕ → Bool
@@ -54,29 +56,29 @@ signature-few w e =
     let t = or-false-left (ltb maxClasses (signatureOf w .classes) || ltb maxAttributes (signatureOf w .attributes)) (ltb maxConstants (signatureOf w .constants)) (or-false-left _ (ltb maxAxioms (entries schemaLayout w)) h) in
     (ltb-false maxClasses (signatureOf w .classes) (or-false-left _ (ltb maxAttributes (signatureOf w .attributes)) t), ltb-false maxAttributes (signatureOf w .attributes) (or-false-right (ltb maxClasses (signatureOf w .classes)) _ t))
 
--- A loop of the search that has passed the first i of m tests: none applied, and nothing is found, which n says.
-pub record Passed (test : ℕ → Bool) (m i n found : ℕ) : Type 0 where
-  pub within : i ≤ m
+-- A loop of the search that has passed the numbers below i: no test applied, and nothing is found, which n says.
+pub record Passed (test : ℕ → Bool) (i n found : ℕ) : Type 0 where
   pub none : any i test ≡ false
   pub kept : found ≡ n
 
-module _ (test : ℕ → Bool) (m : ℕ) where
-  pub passed-none : {n found : ℕ} → found ≡ n → Passed test m 0 n found
-  passed-none e = record { within = omega arith; none = any-zero test; kept = e }
+module _ (test : ℕ → Bool) where
+  pub passed-none : {n found : ℕ} → found ≡ n → Passed test 0 n found
+  passed-none e = record { none = any-zero test; kept = e }
 
-  pub passed-more : {i n found next : ℕ} → Passed test m i n found → i < m → test i ≡ false → next ≡ n → Passed test m (i + 1) n next
-  passed-more {i} z l e k = record { within = omega arith; none = any-still test i (z .none) e; kept = k }
+  pub passed-more : {i n found next : ℕ} → Passed test i n found → test i ≡ false → next ≡ n → Passed test (i + 1) n next
+  passed-more {i} z e k = record { none = any-still test i (z .none) e; kept = k }
 
-  pub passed-all : {i n found : ℕ} → Passed test m i n found → m ≤ i → any m test ≡ false
-  passed-all {i} z l = subst (λ (k : ℕ). any k test ≡ false) (le-antisymm (z .within) l) (z .none)
+  pub passed-all : (m : ℕ) {i n found : ℕ} → Passed test i n found → m ≤ i → any m test ≡ false
+  passed-all m {i} z l = none-any test m λ j h. any-none test i (z .none) j (omega arith)
 
--- What the code has read when axiom i is at hand: n axioms, m objects, k facts, and the axiom x; none before it is broken.
-pub record AtHand (s : Signature) (schema state seen : List ℕ) (n m k i : ℕ) (x : Axiom) : Type 0 where
+-- What the code has read when axiom i is at hand: n axioms, m objects, the axiom x, and how many objects it asks about;
+-- no axiom before it is broken.
+pub record AtHand (s : Signature) (schema state seen : List ℕ) (n m i : ℕ) (x : Axiom) (asked : ℕ) : Type 0 where
   pub judged : Judged s schema state seen
   pub axioms : n ≡ entries schemaLayout schema
   pub objects : m ≡ objectsOf state
-  pub facts : k ≡ entries stateLayout state
   pub is : x ≡ schemaOf schema .axiomAt i
+  pub asks : asked ≡ objectsAsked x m
   pub here : i < n
   pub earlier : any i (brokenAt (schemaOf schema) (stateOf state)) ≡ false
 
@@ -89,7 +91,7 @@ module _ (schema state : List ℕ) (n : ℕ) (axioms : n ≡ entries schemaLayou
   pub none-first : any n (brokenAt (schemaOf schema) (stateOf state)) ≡ false → n ≡ firstBroken (schemaOf schema) (stateOf state)
   none-first e = first-is n (omega arith) e (λ h. absurd (omega arith))
 
-module _ {s : Signature} {schema state seen : List ℕ} {n m k i : ℕ} {x : Axiom} (z : AtHand s schema state seen n m k i x) where
+module _ {s : Signature} {schema state seen : List ℕ} {n m i : ℕ} {x : Axiom} {asked : ℕ} (z : AtHand s schema state seen n m i x asked) where
   pub axiom-named : Named x
   axiom-named =
       let ok = z .judged .schema-accepted in
@@ -101,14 +103,30 @@ module _ {s : Signature} {schema state seen : List ℕ} {n m k i : ℕ} {x : Axi
       first-is schema state n (z .axioms) i (le-of-lt (z .here)) (z .earlier)
       (λ _. not-of-false _ (false-of _ (λ t. h (rw (z .is) (holds-iff (stateOf state) (schemaOf schema .axiomAt i) .0 t)))))
 
-  pub object-first : (d : ℕ) → d < m → So (objectBreaks seen x d) → i ≡ firstBroken (schemaOf schema) (stateOf state)
-  object-first d l b = broken-first (object-broken s state seen (z .judged .state-accepted) (z .judged .index) x axiom-named d (rw (← (z .objects)) l) b)
+  pub object-inside : (d : ℕ) → d < asked → d < m
+  object-inside d l = objects-asked-few x m d (rw (← (z .asks)) l)
 
-  pub pair-first : (f : ℕ) → f < k → So (pairBreaks state seen x f) → i ≡ firstBroken (schemaOf schema) (stateOf state)
-  pair-first f l b = broken-first (pair-broken s state seen (z .judged .state-accepted) (z .judged .index) x axiom-named f (rw (← (z .facts)) l) b)
+  pub object-first : (d : ℕ) → d < asked → So (objectBreaks seen x d) → i ≡ firstBroken (schemaOf schema) (stateOf state)
+  object-first d l b = broken-first (object-broken s state seen (z .judged .state-accepted) (z .judged .index) x axiom-named d (rw (← (z .objects)) (object-inside d l)) b)
 
-  -- neither an object nor a fact breaks it
-  pub axiom-kept : any m (objectBreaks seen x) ≡ false → any k (pairBreaks state seen x) ≡ false → brokenAt (schemaOf schema) (stateOf state) i ≡ false
-  axiom-kept o p =
+  pub kinds : KindsRise state
+  kinds = kinds-rise s state (z .judged .state-accepted)
+
+  pub few-facts : entries stateLayout state ≤ maxFacts
+  few-facts = facts-few state (passes-7 s state (z .judged .state-accepted))
+
+  pub pair-first : (f : ℕ) → f < entries stateLayout state → So (pairBreaks state seen x f) → i ≡ firstBroken (schemaOf schema) (stateOf state)
+  pair-first f l b = broken-first (pair-broken s state seen (z .judged .state-accepted) (z .judged .index) x axiom-named f l b)
+
+  -- the facts before the row that it asks about do not break it
+  pub row-begins : {k from found : ℕ} → k ≡ kindAsked x → KindParts state k from from → found ≡ n → Passed (pairBreaks state seen x) from n found
+  row-begins e p k = record { none = pairs-before state seen x e p; kept = k }
+
+  -- neither an object nor a fact breaks it, as far as it asks about them
+  pub axiom-kept : {k to : ℕ} → any asked (objectBreaks seen x) ≡ false → k ≡ kindAsked x → KindParts state (k + 1) to to → any to (pairBreaks state seen x) ≡ false
+      → brokenAt (schemaOf schema) (stateOf state) i ≡ false
+  axiom-kept o e p q =
+      let all = objects-asked-all seen x m (rw (← (z .asks)) o) in
       ap not (holds-iff (stateOf state) (schemaOf schema .axiomAt i) .1
-      (subst (Holds (stateOf state)) (z .is) (unbroken s state seen (z .judged .state-accepted) (z .judged .index) x axiom-named (rw (← (z .objects)) o) (rw (← (z .facts)) p))))
+      (subst (Holds (stateOf state)) (z .is)
+      (unbroken s state seen (z .judged .state-accepted) (z .judged .index) x axiom-named (rw (← (z .objects)) all) (pairs-after state seen x e p q))))

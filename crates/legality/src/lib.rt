@@ -1,12 +1,14 @@
 // The first broken axiom of an accepted state under an accepted schema, by its place in the schema record.
-// For each axiom one pass over the objects and one over the facts; the first that breaks it ends the search.
+// For each axiom one pass over the objects or over the facts of its attribute; the first that breaks it ends the search.
+use asked::first_of_kind;
+use asked::kind_asked;
+use asked::objects_asked;
 use breaks::object_breaks;
 use breaks::pair_breaks;
 use index::left::TABLE_WORDS;
 use records::schema::Signature;
 use records::schema::axiom_at;
 use records::schema::axioms;
-use records::state::facts;
 use records::state::objects;
 ghost use mathlib.Core.Path.{_≡_};
 ghost use Rattle.records.specs.Executable.{firstBroken};
@@ -14,6 +16,7 @@ ghost use Rattle.records.specs.SchemaRecord.{schemaOf};
 ghost use Rattle.records.specs.StateRecord.{stateOf};
 ghost use Rattle.legality.specs.Legality.{Judged};
 
+mod asked;
 mod breaks;
 
 // The number of axioms where none is broken. The signature is that under which the state was accepted; only the contract
@@ -24,17 +27,20 @@ pub fn first_broken(s: Signature, schema: &[u16], state: &[u16], seen: &[u64; TA
 {
     let n = axioms(schema);
     let objects = objects(state);
-    let facts = facts(state);
     let mut found = n;
     'search: for i in 0..n {
         let a = axiom_at(schema, i);
-        for d in 0..objects {
+        let asked = objects_asked(a, objects);
+        for d in 0..asked {
             if object_breaks(a, seen, d) {
                 found = i;
                 break 'search;
             }
         }
-        for f in 0..facts {
+        let kind = kind_asked(a);
+        let from = first_of_kind(state, kind);
+        let to = first_of_kind(state, kind + 1);
+        for f in from..to {
             if pair_breaks(a, state, seen, f) {
                 found = i;
                 break 'search;
