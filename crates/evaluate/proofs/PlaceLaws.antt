@@ -10,20 +10,20 @@ use denote.Enum.Declared.{tagOf}
 use Rattle.records.proofs.concept.Token.{the-type}
 use Rattle.records.specs.declared.concept.Token.the-variants.{Class, Constant, Both, Reached, Common}
 use Rattle.records.specs.declared.schema.Signature.{Signature}
-use Rattle.records.specs.Concept.{Concept}
+use Rattle.records.specs.Concept.{directionOf, Concept}
 use Rattle.records.specs.Layout.{conceptLayout, entries, stateLayout, objectPart, constantKinds, maxTokens}
 use Rattle.records.specs.ConceptRecord.{Pile, tokenAt, pileAfter, topConcept, conceptOf}
 use Rattle.records.specs.StateRecord.{objects, stateOf}
 use Rattle.records.proofs.AcceptedLaws.{tokens-few, pile-concept}
 use Rattle.records.specs.Pile.{below, HasConcept, HasPath}
-use Rattle.records.proofs.PileLaws.{PutsConcept, TakesBoth, TakesReached, TakesCommon, TakesStep, stepToken, concept-later, path-later, concept-top, class-ends, everything-ends, constant-ends, both-ends, empty-ends, step-ends, reached-ends, common-ends, concept-token, path-token}
+use Rattle.records.proofs.PileLaws.{PutsConcept, TakesBoth, TakesReached, TakesCommon, TakesStep, stepToken, concept-later, path-later, concept-top, class-ends, everything-ends, constant-ends, both-ends, empty-ends, step-ends, reached-ends, common-ends, concept-token, path-token, left-of-concept, left-of-path, only-everything, only-empty}
 use Rattle.evaluate.specs.Selection.{Selection}
 use Rattle.evaluate.specs.Evaluable.{Evaluable}
 use Rattle.evaluate.specs.Rows.{SharedRow, Shared, Row, Below, Diagonal}
-use Rattle.evaluate.specs.Steps.{directionOf, endAt, Stepped}
+use Rattle.evaluate.specs.Steps.{endAt, Stepped}
 use Rattle.evaluate.specs.Places.{Place, Span, ConceptSpan, ConceptAt, PathAt, BothAt, ReachedAt, CommonAt, StepAt}
 use Rattle.evaluate.proofs.FactLaws.{objects-room, end-inside}
-use Rattle.evaluate.proofs.TokenLaws.{constant-declared, left-of-concept, left-of-path, only-everything, only-empty}
+use Rattle.evaluate.proofs.TokenLaws.{constant-declared}
 use Rattle.evaluate.proofs.SelectionLaws.{class-selection, constant-selection, everything-selection, empty-relation, both-selection, reached-selection, common-selection}
 use Rattle.evaluate.proofs.StepLaws.{step-relation, along}
 

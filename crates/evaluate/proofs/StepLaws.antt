@@ -12,7 +12,7 @@ use lib.ListN.{replicate, length-replicate}
 use Rattle.records.specs.declared.schema.Signature.{Signature}
 use Rattle.records.specs.Finite.{any}
 use Rattle.records.specs.State.{State}
-use Rattle.records.specs.Concept.{backward, Concept, Path, step}
+use Rattle.records.specs.Concept.{backward, directionOf, Concept, Path, step}
 use Rattle.records.specs.Executable.{stepsTo, isIn, leadsTo}
 use Rattle.records.specs.Layout.{objectPart, stateLayout, entries, rightAt, attributeKinds}
 use Rattle.records.specs.StateRecord.{kindAt, objectAt, saysPair, stateOf}
@@ -25,7 +25,7 @@ use Rattle.evaluate.specs.declared.relation.Step.{Step}
 use Rattle.evaluate.specs.Selection.{relationWords, Selection, Relation}
 use Rattle.evaluate.specs.Evaluable.{Evaluable}
 use Rattle.evaluate.specs.Rows.{rowBit, Merged}
-use Rattle.evaluate.specs.Steps.{originAt, targetAt, carries, Followed, Stepped, directionOf, endAt}
+use Rattle.evaluate.specs.Steps.{originAt, targetAt, carries, Followed, Stepped, endAt}
 use Rattle.evaluate.proofs.FactLaws.{objects-room, end-inside}
 
 -- fact i is of the step's kind and lands in the set

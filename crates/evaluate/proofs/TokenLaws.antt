@@ -1,8 +1,8 @@
--- What a token of an evaluable concept names, and which token is left where a match has taken the others.
+-- What a token of an evaluable concept names.
 use Prim.Native.Nat.{ℕ, _+_, _^_, _≤_, _<_}
-use mathlib.Core.Bool.{Bool, true, false, cond, true≢false, false≢true}
-use mathlib.Core.List.{List, [], _∷_}
-use mathlib.Core.Path.{_≡_, refl}
+use mathlib.Core.Bool.{Bool, true, false, cond}
+use mathlib.Core.List.{List}
+use mathlib.Core.Path.{_≡_}
 use native.Mathlib.Omega.{arith}
 use native.Mathlib.Nat.{le-refl}
 use borrow.Author.Tests.{ltb-true, not-false}
@@ -10,9 +10,6 @@ use lib.Dec.{eqb}
 use lib.ListN.{getD}
 use mir.Syntax.{w16}
 use mir.Val.{Fits}
-use types.Run.{OneOf, miss}
-use denote.Enum.Declared.{tagOf}
-use Rattle.records.proofs.concept.Token.{the-type}
 use Rattle.records.specs.declared.schema.Signature.{Signature}
 use Rattle.records.specs.declared.concept.Token.{Token}
 use Rattle.records.specs.declared.concept.Token.the-variants.{Class, Everything, Constant, Both, Empty, Forward, Backward, Reached, Common}
@@ -21,7 +18,6 @@ use Rattle.records.specs.ConceptRecord.{tokenOf, tokenAt}
 use Rattle.records.specs.Refusal.{outside, suits, faultyToken}
 use Rattle.records.proofs.BoolLaws.{or-false-right}
 use Rattle.records.proofs.AcceptedLaws.{token-faultless}
-use Rattle.records.proofs.PileLaws.{putsPath}
 use Rattle.evaluate.specs.Evaluable.{Evaluable}
 
 -- the number that a token names, 0 where it names none
@@ -64,32 +60,3 @@ unfolding faultyToken
 constant-declared {s} {w} ok i l {a} is =
     ltb-true a (s .constants)
     (rw is at (not-false (suits s (tokenAt w i) (rightAt conceptLayout w i)) (or-false-right (outside 1 9 (leftAt conceptLayout w i)) _ (token-faultless s w (ok .tokens) i l))))
-
--- the tokens by their places in the enum: those that the code does not name where a concept ends, and where a path ends
-abbrev pub left-of-concept : List ℕ
-left-of-concept = 1 ∷ 4 ∷ 5 ∷ 6 ∷ []
-
-abbrev pub left-of-path : List ℕ
-left-of-path = 0 ∷ 1 ∷ 2 ∷ 3 ∷ 4 ∷ 7 ∷ 8 ∷ []
-
-pub only-everything : (t : Token) → OneOf left-of-concept (tagOf the-type t) → putsPath t ≡ false → t ≡ Everything
-only-everything (Class A) k h = absurd (miss left-of-concept 0 tt k)
-only-everything Everything k h = refl
-only-everything (Constant a) k h = absurd (miss left-of-concept 2 tt k)
-only-everything Both k h = absurd (miss left-of-concept 3 tt k)
-only-everything Empty k h = absurd (true≢false h)
-only-everything (Forward P) k h = absurd (true≢false h)
-only-everything (Backward P) k h = absurd (true≢false h)
-only-everything Reached k h = absurd (miss left-of-concept 7 tt k)
-only-everything Common k h = absurd (miss left-of-concept 8 tt k)
-
-pub only-empty : (t : Token) → OneOf left-of-path (tagOf the-type t) → putsPath t ≡ true → t ≡ Empty
-only-empty (Class A) k h = absurd (false≢true h)
-only-empty Everything k h = absurd (false≢true h)
-only-empty (Constant a) k h = absurd (false≢true h)
-only-empty Both k h = absurd (false≢true h)
-only-empty Empty k h = refl
-only-empty (Forward P) k h = absurd (miss left-of-path 5 tt k)
-only-empty (Backward P) k h = absurd (miss left-of-path 6 tt k)
-only-empty Reached k h = absurd (false≢true h)
-only-empty Common k h = absurd (false≢true h)

@@ -5,13 +5,12 @@ use mathlib.Core.Bool.{Bool}
 use mathlib.Core.List.{List}
 use mathlib.Core.Path.{_≡_}
 use Rattle.records.specs.declared.schema.Signature.{Signature}
-use Rattle.records.specs.Concept.{Concept, both, reached, common, Path, step}
+use Rattle.records.specs.Concept.{directionOf, Concept, both, reached, common, Path, step}
 use Rattle.records.specs.Layout.{conceptLayout, entries}
 use Rattle.records.specs.ConceptRecord.{Pile, pileAfter, topConcept}
 use Rattle.records.specs.StateRecord.{stateOf}
 use Rattle.records.specs.Pile.{topPath, below}
 use Rattle.evaluate.specs.Selection.{Selection, Relation}
-use Rattle.evaluate.specs.Steps.{directionOf}
 use Rattle.evaluate.specs.Evaluable.{Evaluable}
 
 -- records of some signature that can be evaluated, and a place e of the concept

@@ -1,22 +1,17 @@
 -- What the helpers of a step promise: a fact of the step's kind carries a row of the relation to the row of its target.
 use Prim.Native.Nat.{ℕ, _<_}
-use mathlib.Core.Bool.{Bool, true, false, cond, not, _&&_, _||_}
+use mathlib.Core.Bool.{Bool, cond, not, _&&_, _||_}
 use mathlib.Core.List.{List}
 use mathlib.Core.Path.{_≡_}
 use lib.Dec.{eqb}
 use lib.ListN.{length}
 use Rattle.records.specs.Finite.{any}
-use Rattle.records.specs.Concept.{Direction, forward, backward}
 use Rattle.records.specs.Layout.{objectPart, stateLayout, rightAt}
 use Rattle.records.specs.StateRecord.{kindAt, objectAt}
 use Rattle.index.specs.BitSet.{bitAt}
 use Rattle.evaluate.specs.declared.relation.Step.{Step}
 use Rattle.evaluate.specs.Selection.{relationWords}
 use Rattle.evaluate.specs.Rows.{rowBit}
-
-abbrev pub directionOf : Bool → Direction
-directionOf true = backward
-directionOf false = forward
 
 -- the first or the second object of the pair that fact i is
 abbrev pub endAt : List ℕ → Bool → ℕ → ℕ

@@ -8,8 +8,6 @@ use native.Mathlib.Omega.{arith}
 use lib.ListN.{length, drop, set, length-append}
 use lib.Seq.{drop-cons, set-at}
 use mir.Val.{boolByte}
-use Rattle.records.specs.Finite.{count}
-use Rattle.records.proofs.FiniteLaws.{count-more}
 use Rattle.judge.specs.Select.{marks}
 
 module _ (f : ℕ → Bool) where
@@ -31,10 +29,3 @@ module _ (f : ℕ → Bool) where
   marks-more l now i e h b q =
       rw (e, drop-cons l i 0 h, mark-byte b, q, add-one, append-assoc)
       (set-at (marks f i) _ (drop (suc i) l) (cond (f i) 1 0) i (marks-length i))
-
-pub counts : (f : ℕ → Bool) (i : ℕ) {k : ℕ} → k ≡ count i f → (b : Bool) → b ≡ f i → k + boolByte b ≡ count (i + 1) f
-counts f i {k} e b q = rw (count-more f i, ← q, e) (one b)
-  where
-    one : (b : Bool) → count i f + boolByte b ≡ cond b (suc (count i f)) (count i f)
-    one true = omega arith
-    one false = omega arith

@@ -19,7 +19,8 @@ use Rattle.records.proofs.BoolLaws.{and-both, and-map, and-three-map, not-both,
 use Rattle.records.proofs.FiniteLaws.{any-none}
 use Rattle.index.specs.Index.{Indexes}
 use Rattle.index.proofs.IndexLaws.{index-says}
-use Rattle.legality.specs.Breaks.{Named, seenAt, isPair, objectBreaks, pairBreaks}
+use Rattle.records.specs.InRange.{AxiomInRange}
+use Rattle.legality.specs.Breaks.{seenAt, isPair, objectBreaks, pairBreaks}
 use Rattle.legality.proofs.FactLaws.{PairFact, says-iff, pair-iff, pair-of, few-objects, object-inside, value-inside, repeats-of, repeats-other}
 
 -- where nothing is in a and outside b, what is in a is in b
@@ -36,7 +37,7 @@ module _ (s : Signature) (w seen : List ℕ) (ok : AcceptedState s w) (z : Index
   first-seen k f l m = seen-is k (objectAt w f) l (object-inside s w ok f m)
 
   -- An object that breaks an axiom.
-  pub object-broken : (x : Axiom) → Named x → (d : ℕ) → d < objects w → So (objectBreaks seen x d) → Holds (stateOf w) x → ⊥
+  pub object-broken : (x : Axiom) → AxiomInRange x → (d : ℕ) → d < objects w → So (objectBreaks seen x d) → Holds (stateOf w) x → ⊥
   unfolding stateOf
   object-broken (Subclass A B) n d l t h =
       let p = and-map {b = not (seenAt seen B d)} (λ u. seen-is A d (omega arith) l ∙ u) (λ u. seen-is B d (omega arith) l ∙ false-of-not _ u) t in
@@ -54,7 +55,7 @@ module _ (s : Signature) (w seen : List ℕ) (ok : AcceptedState s w) (z : Index
   object-broken (Relates P A B) n d l t h = false≢true t
 
   -- A fact that breaks an axiom.
-  pub pair-broken : (x : Axiom) → Named x → (f : ℕ) → f < entries stateLayout w → So (pairBreaks w seen x f) → Holds (stateOf w) x → ⊥
+  pub pair-broken : (x : Axiom) → AxiomInRange x → (f : ℕ) → f < entries stateLayout w → So (pairBreaks w seen x f) → Holds (stateOf w) x → ⊥
   unfolding stateOf
   pair-broken (Subclass A B) n f l t h = false≢true t
   pair-broken (Typing A P B) n f l t h =
@@ -89,7 +90,7 @@ module _ (s : Signature) (w seen : List ℕ) (ok : AcceptedState s w) (z : Index
       (p .1)
 
   -- An axiom that none breaks.
-  pub unbroken : (x : Axiom) → Named x → any (objects w) (objectBreaks seen x) ≡ false → any (entries stateLayout w) (pairBreaks w seen x) ≡ false → Holds (stateOf w) x
+  pub unbroken : (x : Axiom) → AxiomInRange x → any (objects w) (objectBreaks seen x) ≡ false → any (entries stateLayout w) (pairBreaks w seen x) ≡ false → Holds (stateOf w) x
   unfolding stateOf
   unbroken (Subclass A B) n o q = λ d l p.
       seen-is B d (omega arith) l

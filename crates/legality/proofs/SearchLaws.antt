@@ -1,30 +1,27 @@
 -- What the search for the first broken axiom knows while it goes on, and at each of its ends.
 -- An axiom of an accepted schema names only what the index has bits for, so BreakLaws applies to it.
 use Prim.Native.Nat.{ℕ, _+_, _≤_, _<_}
-use mathlib.Core.Bool.{Bool, false, So, not, _||_}
+use mathlib.Core.Bool.{Bool, false, So, not}
 use mathlib.Core.List.{List}
 use mathlib.Core.Path.{_≡_, sym, ap, subst}
 use native.Mathlib.Nat.{le-of-lt}
 use native.Mathlib.Omega.{arith}
-use borrow.Author.Tests.{ltb-true, ltb-false}
-use lib.Dec.{ltb}
 use Rattle.records.specs.declared.schema.Axiom.{Axiom}
-use Rattle.records.specs.declared.schema.Axiom.the-variants.{Subclass, Typing, Necessary, Single, Relates}
 use Rattle.records.specs.declared.schema.Signature.{Signature}
 use Rattle.records.specs.Finite.{any}
 use Rattle.records.specs.Schema.{Schema, Holds}
 use Rattle.records.specs.State.{State}
 use Rattle.records.specs.Executable.{holds, firstBroken}
-use Rattle.records.specs.Layout.{schemaLayout, stateLayout, entries, maxClasses, maxAttributes, maxConstants, maxAxioms, maxFacts}
-use Rattle.records.specs.SchemaRecord.{signatureOf, schemaOf}
+use Rattle.records.specs.Layout.{schemaLayout, stateLayout, entries, maxFacts}
+use Rattle.records.specs.SchemaRecord.{schemaOf}
 use Rattle.records.specs.StateRecord.{objects as objectsOf, stateOf}
-use Rattle.records.specs.Refusal.{declares, oversized, refusal-1}
-use Rattle.records.proofs.BoolLaws.{or-false-left, or-false-right, and-map, and-three-map, false-of, not-of-false}
+use Rattle.records.specs.InRange.{AxiomInRange}
+use Rattle.records.proofs.BoolLaws.{false-of, not-of-false}
 use Rattle.records.proofs.FiniteLaws.{any-zero, any-still, any-none, none-any, least-is}
 use Rattle.records.proofs.ExecutableLaws.{holds-iff}
-use Rattle.records.proofs.AcceptedLaws.{passes-1, passes-2, passes-7, axiom-declared, facts-few}
+use Rattle.records.proofs.AcceptedLaws.{axiom-in-range, passes-7, facts-few}
 use Rattle.legality.specs.Legality.{Judged}
-use Rattle.legality.specs.Breaks.{Named, objectBreaks, pairBreaks}
+use Rattle.legality.specs.Breaks.{objectBreaks, pairBreaks}
 use Rattle.legality.specs.Asked.{objectsAsked, kindAsked, KindsRise, KindParts}
 use Rattle.legality.proofs.BreakLaws.{object-broken, pair-broken, unbroken}
 use Rattle.legality.proofs.AskedLaws.{objects-asked-few, objects-asked-all, pairs-before, pairs-after, kinds-rise}
@@ -32,29 +29,6 @@ use Rattle.legality.proofs.AskedLaws.{objects-asked-few, objects-asked-
 -- axiom i is broken
 abbrev pub brokenAt : Schema → State → ℕ → Bool
 brokenAt S I i = not (holds I (S .axiomAt i))
-
-declared-named : (s : Signature) (x : Axiom) → s .classes ≤ maxClasses → s .attributes ≤ maxAttributes → So (declares s x) → Named x
-declared-named s x c a = pick x
-  where
-    class : {A : ℕ} → So (ltb A (s .classes)) → A < maxClasses
-    class {A} t = let h = ltb-true A (s .classes) t in omega arith
-
-    attribute : {P : ℕ} → So (ltb P (s .attributes)) → P < maxAttributes
-    attribute {P} t = let h = ltb-true P (s .attributes) t in omega arith
-
-    pick : (x : Axiom) → So (declares s x) → Named x
-    pick (Subclass A B) = and-map class class
-    pick (Typing A P B) = and-three-map class attribute class
-    pick (Necessary A P) = and-map class attribute
-    pick (Single A P) = and-map class attribute
-    pick (Relates P A B) = and-three-map attribute class class
-
-signature-few : (w : List ℕ) → refusal-1 w ≡ false → (signatureOf w .classes ≤ maxClasses) × (signatureOf w .attributes ≤ maxAttributes)
-unfolding refusal-1
-signature-few w e =
-    let h = or-false-left (oversized (signatureOf w) (entries schemaLayout w)) _ e in
-    let t = or-false-left (ltb maxClasses (signatureOf w .classes) || ltb maxAttributes (signatureOf w .attributes)) (ltb maxConstants (signatureOf w .constants)) (or-false-left _ (ltb maxAxioms (entries schemaLayout w)) h) in
-    (ltb-false maxClasses (signatureOf w .classes) (or-false-left _ (ltb maxAttributes (signatureOf w .attributes)) t), ltb-false maxAttributes (signatureOf w .attributes) (or-false-right (ltb maxClasses (signatureOf w .classes)) _ t))
 
 -- A loop of the search that has passed the numbers below i: no test applied, and nothing is found, which n says.
 pub record Passed (test : ℕ → Bool) (i n found : ℕ) : Type 0 where
@@ -92,11 +66,8 @@ module _ (schema state : List ℕ) (n : ℕ) (axioms : n ≡ entries schemaLayou
   none-first e = first-is n (omega arith) e (λ h. absurd (omega arith))
 
 module _ {s : Signature} {schema state seen : List ℕ} {n m i : ℕ} {x : Axiom} {asked : ℕ} (z : AtHand s schema state seen n m i x asked) where
-  pub axiom-named : Named x
-  axiom-named =
-      let ok = z .judged .schema-accepted in
-      let few = signature-few schema (passes-1 schema ok) in
-      declared-named (signatureOf schema) x (few .0) (few .1) (rw (z .is) (axiom-declared schema (passes-2 schema ok) i (rw (← (z .axioms)) (z .here))))
+  pub axiom-named : AxiomInRange x
+  axiom-named = rw (z .is) (axiom-in-range schema (z .judged .schema-accepted) i (rw (← (z .axioms)) (z .here)))
 
   broken-first : (Holds (stateOf state) x → ⊥) → i ≡ firstBroken (schemaOf schema) (stateOf state)
   broken-first h =

@@ -1,22 +1,14 @@
 -- Which object or fact breaks an axiom, by the state's words and its index.
 -- Contracts of helper functions cite these; BreakLaws of proofs/ ties them to what the axioms mean.
-use Prim.Native.Nat.{ℕ, _+_, _-_, _*_, _<_}
+use Prim.Native.Nat.{ℕ, _+_, _-_, _*_}
 use mathlib.Core.Bool.{Bool, false, not, _&&_}
 use mathlib.Core.List.{List}
 use lib.Dec.{eqb, ltb}
 use Rattle.records.specs.declared.schema.Axiom.{Axiom}
 use Rattle.records.specs.declared.schema.Axiom.the-variants.{Subclass, Typing, Necessary, Single, Relates}
-use Rattle.records.specs.Layout.{stateLayout, leftAt, rightAt, objectPart, attributeKinds, maxClasses, maxAttributes}
+use Rattle.records.specs.Layout.{stateLayout, leftAt, rightAt, objectPart, attributeKinds}
 use Rattle.records.specs.StateRecord.{kindAt, objectAt}
 use Rattle.index.specs.BitSet.{bitAt}
-
--- what an axiom names is within the limits, so that the look-ups are too
-abbrev pub Named : Axiom → Type 0
-Named (Subclass A B) = (A < maxClasses) × (B < maxClasses)
-Named (Typing A P B) = (A < maxClasses) × (P < maxAttributes) × (B < maxClasses)
-Named (Necessary A P) = (A < maxClasses) × (P < maxAttributes)
-Named (Single A P) = (A < maxClasses) × (P < maxAttributes)
-Named (Relates P A B) = (P < maxAttributes) × (A < maxClasses) × (B < maxClasses)
 
 -- by the index, some fact is of this kind and object
 abbrev pub seenAt : List ℕ → ℕ → ℕ → Bool

@@ -7,7 +7,7 @@ use records::state::facts;
 use records::state::kind_at;
 ghost use mathlib.Core.Path.{_≡_};
 ghost use Rattle.records.specs.Word.{IsWord};
-ghost use Rattle.legality.specs.Breaks.{Named};
+ghost use Rattle.records.specs.InRange.{AxiomInRange};
 ghost use Rattle.legality.specs.Asked.{objectsAsked, kindAsked, KindsRise, KindParts};
 
 // How many of the objects: none where only pairs can break the axiom.
@@ -25,7 +25,7 @@ pub fn objects_asked(x: Axiom, objects: usize) -> usize
 
 // The kind of the facts: one that no fact has where only objects can break the axiom.
 pub fn kind_asked(x: Axiom) -> usize
-    requires { ⌜ Named x ⌝ }
+    requires { ⌜ AxiomInRange x ⌝ }
     ensures { λ r. ⌜ IsWord (kindAsked x) r ⌝ }
 {
     match x {

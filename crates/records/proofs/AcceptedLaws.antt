@@ -6,9 +6,13 @@ use mathlib.Core.Path.{_≡_, refl, sym}
 use native.Mathlib.Omega.{arith}
 use lib.Dec.{ltb, leb, eqb}
 use lib.ListN.{length}
-use borrow.Author.Tests.{ltb-false, eqb-true, not-false}
+use borrow.Author.Tests.{ltb-true, ltb-false, eqb-true, not-false}
 use Rattle.records.specs.declared.layout.Layout.{Layout}
 use Rattle.records.specs.declared.schema.Signature.{Signature}
+use Rattle.records.specs.declared.schema.Axiom.{Axiom}
+use Rattle.records.specs.declared.schema.Axiom.the-variants.{Subclass, Typing, Necessary, Single, Relates}
+use Rattle.records.specs.declared.concept.Token.{Token}
+use Rattle.records.specs.declared.concept.Token.the-variants.{Class, Everything, Constant, Both, Empty, Forward, Backward, Reached, Common}
 use Rattle.records.specs.declared.schema.SchemaAnswer.{SchemaAnswer}
 use Rattle.records.specs.declared.schema.SchemaAnswer.the-variants as schema
 use Rattle.records.specs.declared.concept.ConceptAnswer.{ConceptAnswer}
@@ -16,12 +20,13 @@ use Rattle.records.specs.declared.concept.ConceptAnswer.the-variants as 
 use Rattle.records.specs.declared.state.StateAnswer.{StateAnswer}
 use Rattle.records.specs.declared.state.StateAnswer.the-variants as state
 use Rattle.records.specs.Finite.{any, count}
-use Rattle.records.specs.Layout.{schemaLayout, conceptLayout, stateLayout, entries, lengthFor, maxClasses, maxAttributes, maxConstants, maxAxioms, maxTokens, maxObjects, maxFacts}
+use Rattle.records.specs.Layout.{schemaLayout, conceptLayout, stateLayout, entries, leftAt, rightAt, lengthFor, maxClasses, maxAttributes, maxConstants, maxAxioms, maxTokens, maxObjects, maxFacts}
 use Rattle.records.specs.SchemaRecord.{signatureOf, schemaOf, axiomKind}
 use Rattle.records.specs.ConceptRecord.{pileAfter, tokenAt}
 use Rattle.records.specs.StateRecord.{objects, kindAt, objectAt, stateOf}
-use Rattle.records.specs.Refusal.{misshapen, outside, oversized, declares, faultyAxiom, refusal-1, refusal-2, schemaAnswer, AcceptedSchema, faultyToken, isConcept, steps, refusal-3, refusal-4, refusal-5, refusal-6, conceptAnswer, AcceptedConcept, faultyFact, ascends, descends, namesAt, shares, misnames, refusal-7, refusal-8, refusal-9, refusal-10, stateAnswer, AcceptedState}
-use Rattle.records.proofs.BoolLaws.{or-false-left, or-false-right}
+use Rattle.records.specs.Refusal.{misshapen, outside, oversized, declares, faultyAxiom, suits, refusal-1, refusal-2, schemaAnswer, AcceptedSchema, faultyToken, isConcept, steps, refusal-3, refusal-4, refusal-5, refusal-6, conceptAnswer, AcceptedConcept, faultyFact, ascends, descends, namesAt, shares, misnames, refusal-7, refusal-8, refusal-9, refusal-10, stateAnswer, AcceptedState}
+use Rattle.records.specs.InRange.{AxiomInRange, TokenInRange}
+use Rattle.records.proofs.BoolLaws.{or-false-left, or-false-right, and-map, and-three-map}
 use Rattle.records.proofs.FiniteLaws.{any-none}
 
 -- The answer "accepted" is given only where no test applies.
@@ -90,6 +95,17 @@ module _ (s : Signature) (w : List ℕ) (ok : AcceptedState s w) where
 
 -- What each test that does not apply gives.
 
+pub signature-few : (w : List ℕ) → refusal-1 w ≡ false → (signatureOf w .classes ≤ maxClasses) × (signatureOf w .attributes ≤ maxAttributes) × (signatureOf w .constants ≤ maxConstants)
+unfolding refusal-1
+signature-few w e =
+    let s = signatureOf w in
+    let named = or-false-left _ (ltb maxAxioms (entries schemaLayout w)) (or-false-left (oversized s (entries schemaLayout w)) _ e) in
+    let two = or-false-left (ltb maxClasses (s .classes) || ltb maxAttributes (s .attributes)) _ named in (
+      ltb-false maxClasses (s .classes) (or-false-left _ (ltb maxAttributes (s .attributes)) two),
+      ltb-false maxAttributes (s .attributes) (or-false-right (ltb maxClasses (s .classes)) _ two),
+      ltb-false maxConstants (s .constants) (or-false-right (ltb maxClasses (s .classes) || ltb maxAttributes (s .attributes)) _ named),
+    )
+
 pub axioms-few : (w : List ℕ) → refusal-1 w ≡ false → entries schemaLayout w ≤ maxAxioms
 unfolding refusal-1
 axioms-few w e = ltb-false maxAxioms (entries schemaLayout w) (or-false-right (ltb maxClasses (signatureOf w .classes) || ltb maxAttributes (signatureOf w .attributes) || ltb maxConstants (signatureOf w .constants)) _ (or-false-left (oversized (signatureOf w) (entries schemaLayout w)) _ e))
@@ -129,3 +145,44 @@ fact-ascends w e i l = not-false _ (any-none (descends w) (entries stateLayout w
 pub constant-once : (s : Signature) (w : List ℕ) → refusal-10 s w ≡ false → (a : ℕ) → a < s .constants → count (entries stateLayout w) (namesAt w a) ≡ 1
 unfolding refusal-10
 constant-once s w e a l = eqb-true (count (entries stateLayout w) (namesAt w a)) 1 (not-false _ (or-false-left _ (any a (shares w a)) (any-none (misnames w) (s .constants) e a l)))
+
+-- What an accepted record names is below the limits.
+
+module _ (s : Signature) (classes : s .classes ≤ maxClasses) (attributes : s .attributes ≤ maxAttributes) where
+  class-below : {A : ℕ} → So (ltb A (s .classes)) → A < maxClasses
+  class-below {A} t = omega (arith, ltb-true A (s .classes) t)
+
+  attribute-below : {P : ℕ} → So (ltb P (s .attributes)) → P < maxAttributes
+  attribute-below {P} t = omega (arith, ltb-true P (s .attributes) t)
+
+  declares-in-range : (x : Axiom) → So (declares s x) → AxiomInRange x
+  declares-in-range (Subclass A B) = and-map class-below class-below
+  declares-in-range (Typing A P B) = and-three-map class-below attribute-below class-below
+  declares-in-range (Necessary A P) = and-map class-below attribute-below
+  declares-in-range (Single A P) = and-map class-below attribute-below
+  declares-in-range (Relates P A B) = and-three-map attribute-below class-below class-below
+
+  suits-in-range : s .constants ≤ maxConstants → (t : Token) (n : ℕ) → So (suits s t n) → TokenInRange t
+  suits-in-range c (Class A) n h = class-below h
+  suits-in-range c Everything n h = tt
+  suits-in-range c (Constant a) n h = omega (arith, ltb-true a (s .constants) h)
+  suits-in-range c Both n h = tt
+  suits-in-range c Empty n h = tt
+  suits-in-range c (Forward P) n h = attribute-below h
+  suits-in-range c (Backward P) n h = attribute-below h
+  suits-in-range c Reached n h = tt
+  suits-in-range c Common n h = tt
+
+module _ (schema : List ℕ) (ok : AcceptedSchema schema) where
+  pub axiom-in-range : (i : ℕ) → i < entries schemaLayout schema → AxiomInRange (schemaOf schema .axiomAt i)
+  axiom-in-range i l =
+      let few = signature-few schema (passes-1 schema ok) in
+      declares-in-range (signatureOf schema) (few .0) (few .1) (schemaOf schema .axiomAt i) (axiom-declared schema (passes-2 schema ok) i l)
+
+  pub token-in-range : (limit : ℕ) (w : List ℕ) → AcceptedConcept limit (signatureOf schema) w → (i : ℕ) → i < entries conceptLayout w → TokenInRange (tokenAt w i)
+  unfolding faultyToken
+  token-in-range limit w sound i l =
+      let s = signatureOf schema in
+      let few = signature-few schema (passes-1 schema ok) in
+      suits-in-range s (few .0) (few .1) (few .2) (tokenAt w i) (rightAt conceptLayout w i)
+      (not-false _ (or-false-right (outside 1 9 (leftAt conceptLayout w i)) _ (token-faultless s w (passes-4 limit s w sound) i l)))

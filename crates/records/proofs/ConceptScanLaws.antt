@@ -22,7 +22,7 @@ use Rattle.records.specs.declared.schema.Signature.{Signature}
 use Rattle.records.specs.Finite.{any, count}
 use Rattle.records.specs.Refusal.{isConcept, faultyToken, stepAt, steps, refusal-4, refusal-5, refusal-6}
 use Rattle.records.specs.Layout.{conceptLayout, entries, sizeAt}
-use Rattle.records.proofs.FiniteLaws.{any-zero, any-still, count-more, count-le}
+use Rattle.records.proofs.FiniteLaws.{any-zero, any-still, count-turn, count-le}
 use Rattle.records.specs.Scan.{putSort, joinSorts, reachSort, pushOk, pushSort, isConceptSort}
 
 -- The pile's sorts.
@@ -179,12 +179,8 @@ module _ (s : Signature) (w : List ℕ) where
       record {
         faultless = any-still (faultyToken s w) i (z .faultless) ok;
         pile = rw (add-one, after-sorts (tokenAt w i) (pileAfter w i)) (p ∙ ap (λ (x : Sorts). pushSort (tokenAt w i) x) (z .pile));
-        steps = rw (count-more (stepAt w) i, ← q, z .steps) (one b);
+        steps = count-turn (stepAt w) i k b (z .steps) q;
       }
-    where
-      one : (b : Bool) → count i (stepAt w) + boolByte b ≡ cond b (suc (count i (stepAt w))) (count i (stepAt w))
-      one true = omega arith
-      one false = omega arith
 
   pub scanned-room : {i : ℕ} {σ : Sorts} {k : ℕ} → Scanned s w i σ k → i < 64 → (σ .bits < 2 ^ 63) × (σ .height < 64)
   scanned-room {i} {σ} {k} z l =

@@ -6,6 +6,7 @@ use mathlib.Core.Logic.{_⊎_, inl, inr, ⊎-elim, _↔_}
 use native.Mathlib.Nat.{not-suc-le-zero, eq-or-lt-of-le, le-of-suc-le-suc}
 use native.Mathlib.Numerals.{add-one}
 use native.Mathlib.Omega.{arith}
+use mir.Val.{boolByte}
 use Rattle.records.specs.Finite.{all, any, count, least}
 use Rattle.records.proofs.BoolLaws.{or-false-left, or-false-right, or-true-cases, or-left, or-right, and-left, and-right, and-both, not-both}
 
@@ -36,6 +37,28 @@ module _ (f : ℕ → Bool) where
       pick : (t : Bool) → count n f ≤ n → cond t (suc (count n f)) (count n f) ≤ suc n
       pick true h = omega arith
       pick false h = omega arith
+
+  -- a loop that counts goes on
+  pub count-turn : (n k : ℕ) (b : Bool) → k ≡ count n f → b ≡ f n → k + boolByte b ≡ count (n + 1) f
+  count-turn n k b e q = rw (count-more n, ← q, e) (one b)
+    where
+      one : (b : Bool) → count n f + boolByte b ≡ cond b (suc (count n f)) (count n f)
+      one true = omega arith
+      one false = omega arith
+
+  count-grows : (n : ℕ) → count n f ≤ count (suc n) f
+  unfolding count
+  count-grows n = pick (f n)
+    where
+      pick : (t : Bool) → count n f ≤ cond t (suc (count n f)) (count n f)
+      pick true = omega arith
+      pick false = omega arith
+
+  pub count-mono : (i n : ℕ) → i ≤ n → count i f ≤ count n f
+  count-mono i zero h = let q : i ≡ zero = omega arith in omega (arith, ap (λ (j : ℕ). count j f) q)
+  count-mono i (suc n) h =
+      ⊎-elim (λ q. omega (arith, ap (λ (j : ℕ). count j f) q))
+      (λ l. omega (arith, count-mono i n (le-of-suc-le-suc l), count-grows n)) (eq-or-lt-of-le h)
 
   pub any-zero : any 0 f ≡ false
   unfolding any

@@ -1,11 +1,14 @@
 -- What stands on the pile of a concept record, read from the right: the item that ends at a place is made by the token
 -- before it, from the items that end there. So an item's tokens start where the pile is what stands below the item.
 use Prim.Native.Nat.{ℕ, zero, suc, _<_}
-use mathlib.Core.Bool.{Bool, true, false, So, false≢true}
+use mathlib.Core.Bool.{Bool, true, false, So, true≢false, false≢true}
 use mathlib.Core.List.{List, [], _∷_}
 use mathlib.Core.Option.{none, some}
 use mathlib.Core.Path.{_≡_, refl, sym, _∙_}
 use native.Mathlib.Omega.{arith}
+use types.Run.{OneOf, miss}
+use denote.Enum.Declared.{tagOf}
+use Rattle.records.proofs.concept.Token.{the-type}
 use Rattle.records.specs.declared.concept.Token.{Token}
 use Rattle.records.specs.declared.concept.Token.the-variants.{Class, Everything, Constant, Both, Empty, Forward, Backward, Reached, Common}
 use Rattle.records.specs.Concept.{Direction, forward, backward, Concept, class, everything, constant, both, reached, common, Path, empty, step}
@@ -75,12 +78,12 @@ putsPath Common = false
 
 -- What was taken, where a pile is left of which X holds.
 
-took-concept : (X : Pile → Type 0) → (X none → ⊥) → (s : List Item) (rest : Concept → List Item → Pile) → X (takeConcept s rest) → (C : Concept) × (t : List Item) × (s ≡ Item.concept C ∷ t) × X (rest C t)
+pub took-concept : (X : Pile → Type 0) → (X none → ⊥) → (s : List Item) (rest : Concept → List Item → Pile) → X (takeConcept s rest) → (C : Concept) × (t : List Item) × (s ≡ Item.concept C ∷ t) × X (rest C t)
 took-concept X bare [] rest h = absurd (bare h)
 took-concept X bare (Item.concept C ∷ s) rest h = (C, s, refl, h)
 took-concept X bare (Item.path c ∷ s) rest h = absurd (bare h)
 
-took-path : (X : Pile → Type 0) → (X none → ⊥) → (s : List Item) (rest : Path → List Item → Pile) → X (takePath s rest) → (c : Path) × (t : List Item) × (s ≡ Item.path c ∷ t) × X (rest c t)
+pub took-path : (X : Pile → Type 0) → (X none → ⊥) → (s : List Item) (rest : Path → List Item → Pile) → X (takePath s rest) → (c : Path) × (t : List Item) × (s ≡ Item.path c ∷ t) × X (rest c t)
 took-path X bare [] rest h = absurd (bare h)
 took-path X bare (Item.concept C ∷ s) rest h = absurd (bare h)
 took-path X bare (Item.path c ∷ s) rest h = (c, s, refl, h)
@@ -226,3 +229,32 @@ module _ (w : List ℕ) (e end : ℕ) (next : end ≡ suc e) where
 
   pub path-token : HasPath (pileAfter w end) → putsPath (tokenAt w e) ≡ true
   path-token h = path-after (tokenAt w e) (pileAfter w e) (rw (made refl) at h)
+
+-- the tokens by their places in the enum: those that the code does not name where a concept ends, and where a path ends
+abbrev pub left-of-concept : List ℕ
+left-of-concept = 1 ∷ 4 ∷ 5 ∷ 6 ∷ []
+
+abbrev pub left-of-path : List ℕ
+left-of-path = 0 ∷ 1 ∷ 2 ∷ 3 ∷ 4 ∷ 7 ∷ 8 ∷ []
+
+pub only-everything : (t : Token) → OneOf left-of-concept (tagOf the-type t) → putsPath t ≡ false → t ≡ Everything
+only-everything (Class A) k h = absurd (miss left-of-concept 0 tt k)
+only-everything Everything k h = refl
+only-everything (Constant a) k h = absurd (miss left-of-concept 2 tt k)
+only-everything Both k h = absurd (miss left-of-concept 3 tt k)
+only-everything Empty k h = absurd (true≢false h)
+only-everything (Forward P) k h = absurd (true≢false h)
+only-everything (Backward P) k h = absurd (true≢false h)
+only-everything Reached k h = absurd (miss left-of-concept 7 tt k)
+only-everything Common k h = absurd (miss left-of-concept 8 tt k)
+
+pub only-empty : (t : Token) → OneOf left-of-path (tagOf the-type t) → putsPath t ≡ true → t ≡ Empty
+only-empty (Class A) k h = absurd (false≢true h)
+only-empty Everything k h = absurd (false≢true h)
+only-empty (Constant a) k h = absurd (false≢true h)
+only-empty Both k h = absurd (false≢true h)
+only-empty Empty k h = refl
+only-empty (Forward P) k h = absurd (miss left-of-path 5 tt k)
+only-empty (Backward P) k h = absurd (miss left-of-path 6 tt k)
+only-empty Reached k h = absurd (false≢true h)
+only-empty Common k h = absurd (false≢true h)

@@ -1,9 +1,15 @@
 -- Document 01, "Meaning": concepts and paths (the report's query language, section 3.1).
 -- A concept holds paths and a path holds concepts.
 use Prim.Native.Nat.{ℕ}
+use mathlib.Core.Bool.{Bool, true, false}
 
 pub data Direction : Type 0 where
   forward backward : Direction
+
+-- by whether it goes backward
+abbrev pub directionOf : Bool → Direction
+directionOf false = forward
+directionOf true = backward
 
 mutual
   pub data Concept : Type 0 where

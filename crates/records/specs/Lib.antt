@@ -19,3 +19,4 @@ pub mod Executable
 -- What contracts of helper functions cite, and nothing above them.
 pub mod Scan
 pub mod Pile
+pub mod InRange

@@ -12,10 +12,17 @@ pub struct Layout {
     pub counter: usize,
 }
 
-fn wide(x: u16) -> usize
+pub fn wide(x: u16) -> usize
     ensures { λ r. ⌜ r ≡ x ⌝ }
 {
     x as usize
+}
+
+pub fn narrow(x: usize) -> u16
+    requires { ⌜ x < 2 ^ 16 ⌝ }
+    ensures { λ r. ⌜ r ≡ x ⌝ }
+{
+    x as u16
 }
 
 // The word at `i`, or 0 past the end: no index can be out of range.

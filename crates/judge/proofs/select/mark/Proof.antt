@@ -1,6 +1,6 @@
 -- What stands before the present place is marked and counted.
 use Prim.Native.Nat.{_-_, _≤_}
-use Rattle.judge.proofs.MarkLaws.{counts, marks-more, marks-none}
+use Rattle.judge.proofs.MarkLaws.{marks-more, marks-none}
 use Rattle.judge.specs.Select.{marks}
 use borrow.Author.Needs.{needs}
 use lib.ListN.{drop, length, length-set}
@@ -9,7 +9,7 @@ use native.Mathlib.Omega.{arith}
 use native.Mathlib.Nat.{le-antisymm}
 use mathlib.Core.List.{_++_}
 use Rattle.records.specs.Finite.{count}
-use Rattle.records.proofs.FiniteLaws.{count-le}
+use Rattle.records.proofs.FiniteLaws.{count-le, count-turn}
 use Rattle.records.proofs.ConceptScanLaws.{byte-small}
 use Rattle.index.specs.BitSet.{bitAt}
 use Rattle.judge.proofs.select.mark.Statement.{statement}
@@ -54,7 +54,7 @@ loop-again : tie.Need-loop-again Inv-loop μ-loop
 loop-again c = (
   omega arith,
   simp length-set (c .before .before .before .loop .inv .1),
-  counts (bitAt (c .before .before .before .before .before .args .set .now)) (c .before .before .before .loop .i) (c .before .before .before .loop .inv .2) (c .has .result) (c .has .ensures),
+  count-turn (bitAt (c .before .before .before .before .before .args .set .now)) (c .before .before .before .loop .i) _ (c .has .result) (c .before .before .before .loop .inv .2) (c .has .ensures),
   marks-more (bitAt (c .before .before .before .before .before .args .set .now)) _ _ (c .before .before .before .loop .i) (c .before .before .before .loop .inv .3) (omega (arith, c .before .before .before .before .before .pre)) (c .has .result) (c .has .ensures),
 )
 
