@@ -1,23 +1,20 @@
 -- An accepted query keeps the limits, and the facts of the concept that ends at its last token are what the query asks.
-use Prim.Native.Nat.{ℕ, _+_, _≤_, _<_}
+use Prim.Native.Nat.{ℕ, _+_, _≤_}
 use native.Mathlib.Numerals.{add-one}
 use native.Mathlib.Omega.{arith}
-use mathlib.Core.Bool.{So, false, _||_}
+use mathlib.Core.Bool.{false}
 use mathlib.Core.List.{List, []}
 use mathlib.Core.Path.{_≡_, sym, ap, subst, _∙_}
 use lib.Dec.{ltb}
 use lib.ListN.{length, getD, take}
-use borrow.Author.Tests.{ltb-true, ltb-false, eqb-true, not-false}
-use Rattle.records.specs.declared.schema.Signature.{Signature}
-use Rattle.records.specs.declared.concept.Token.{Token}
-use Rattle.records.specs.declared.concept.Token.the-variants.{Class, Everything, Constant, Both, Empty, Forward, Backward, Reached, Common}
+use borrow.Author.Tests.{eqb-true, not-false}
 use Rattle.records.specs.Finite.{count}
-use Rattle.records.specs.Layout.{schemaLayout, conceptLayout, sizeAt, entries, leftAt, rightAt, querySteps, maxClasses, maxAttributes, maxConstants, maxAxioms, maxTokens}
+use Rattle.records.specs.Layout.{conceptLayout, sizeAt, entries, querySteps, maxTokens}
 use Rattle.records.specs.SchemaRecord.{signatureOf}
-use Rattle.records.specs.ConceptRecord.{tokenAt, conceptOf}
-use Rattle.records.specs.Refusal.{misshapen, outside, oversized, suits, faultyToken, steps, refusal-1, refusal-5, refusal-6, AcceptedSchema, AcceptedConcept}
-use Rattle.records.proofs.BoolLaws.{or-false-left, or-false-right}
-use Rattle.records.proofs.AcceptedLaws.{passes-1, passes-3, passes-4, passes-5, passes-6, tokens-few, token-faultless}
+use Rattle.records.specs.ConceptRecord.{conceptOf}
+use Rattle.records.specs.Refusal.{steps, refusal-5, refusal-6, AcceptedSchema, AcceptedConcept}
+use Rattle.records.proofs.BoolLaws.{or-false-left}
+use Rattle.records.proofs.AcceptedLaws.{passes-3, passes-5, passes-6, tokens-few, token-in-range}
 use Rattle.chase.specs.Steps.{conceptSteps}
 use Rattle.chase.specs.Facts.{Facts}
 use Rattle.chase.specs.Task.{asked, taskOf}
@@ -28,32 +25,8 @@ use Rattle.asked.specs.declared.words.Kind.{Kind}
 use Rattle.asked.specs.declared.words.Kind.the-variants.{Members, Equations, Edges}
 use Rattle.asked.specs.declared.words.Words.{Words}
 use Rattle.asked.specs.Listed.{listed, Adds, Grown}
-use Rattle.asked.specs.Places.{Named, Limits, Place}
+use Rattle.asked.specs.Places.{Limits, Place}
 use Rattle.asked.specs.Answer.{Says, Asked}
-
-signature-few : (s : List ℕ) → refusal-1 s ≡ false
-    → (signatureOf s .classes ≤ maxClasses) × (signatureOf s .attributes ≤ maxAttributes) × (signatureOf s .constants ≤ maxConstants)
-unfolding refusal-1
-signature-few s q =
-    let g = signatureOf s in
-    let h = or-false-left _ (ltb maxAxioms (entries schemaLayout s)) (or-false-left (oversized g (entries schemaLayout s)) (misshapen schemaLayout s) q) in
-    let t = or-false-left (ltb maxClasses (g .classes) || ltb maxAttributes (g .attributes)) (ltb maxConstants (g .constants)) h in (
-      ltb-false maxClasses (g .classes) (or-false-left _ (ltb maxAttributes (g .attributes)) t),
-      ltb-false maxAttributes (g .attributes) (or-false-right (ltb maxClasses (g .classes)) _ t),
-      ltb-false maxConstants (g .constants) (or-false-right (ltb maxClasses (g .classes) || ltb maxAttributes (g .attributes)) _ h),
-    )
-
-suits-named : (g : Signature) → (g .classes ≤ maxClasses) × (g .attributes ≤ maxAttributes) × (g .constants ≤ maxConstants)
-    → (t : Token) (a : ℕ) → So (suits g t a) → Named t
-suits-named g few (Class A) a h = omega (arith, few .0, ltb-true A (g .classes) h)
-suits-named g few Everything a h = tt
-suits-named g few (Constant b) a h = omega (arith, few .2, ltb-true b (g .constants) h)
-suits-named g few Both a h = tt
-suits-named g few Empty a h = tt
-suits-named g few (Forward P) a h = omega (arith, few .1, ltb-true P (g .attributes) h)
-suits-named g few (Backward P) a h = omega (arith, few .1, ltb-true P (g .attributes) h)
-suits-named g few Reached a h = tt
-suits-named g few Common a h = tt
 
 -- what is added to no words is what they say
 adds-says : (k : Kind) (F : Facts) (m : List ℕ) → Adds k F [] m → Says k m F
@@ -65,13 +38,6 @@ module _ (s q : List ℕ) (legal : AcceptedSchema s) (sound : AcceptedConcept qu
   pile : refusal-5 q ≡ false
   pile = passes-5 querySteps (signatureOf s) q sound
 
-  named : (i : ℕ) → i < entries conceptLayout q → Named (tokenAt q i)
-  unfolding faultyToken
-  named i h =
-      suits-named (signatureOf s) (signature-few s (passes-1 s legal)) (tokenAt q i) (rightAt conceptLayout q i)
-      (not-false _ (or-false-right (outside 1 9 (leftAt conceptLayout q i)) _
-      (token-faultless (signatureOf s) q (passes-4 querySteps (signatureOf s) q sound) i h)))
-
   limits : Limits q
   limits =
       record {
@@ -81,7 +47,7 @@ module _ (s q : List ℕ) (legal : AcceptedSchema s) (sound : AcceptedConcept qu
           accepted-steps q pile,
           accepted-limit q pile querySteps (passes-6 querySteps (signatureOf s) q sound),
         );
-        named = named;
+        named = token-in-range s legal querySteps q sound;
       }
 
   -- the second size is the number of steps

@@ -3,26 +3,29 @@
 use Prim.Native.Nat.{ℕ, suc, _+_, _-_, _<_}
 use native.Mathlib.Omega.{arith}
 use mathlib.Core.Bool.{Bool, true, false}
-use mathlib.Core.List.{List, [], _∷_}
-use mathlib.Core.Path.{_≡_, refl, subst}
-use types.Run.{OneOf, miss}
+use mathlib.Core.List.{List}
+use mathlib.Core.Path.{_≡_, subst}
+use types.Run.{OneOf}
 use denote.Enum.Declared.{tagOf}
 use Rattle.records.proofs.concept.Token.{the-type}
 use Rattle.records.specs.declared.concept.Token.{Token}
-use Rattle.records.specs.declared.concept.Token.the-variants.{Class, Everything, Constant, Both, Empty, Forward, Backward, Reached, Common}
+use Rattle.records.specs.declared.concept.Token.the-variants.{Class, Constant, Both, Reached, Common}
 use Rattle.records.specs.Layout.{maxAttributes}
+use Rattle.records.specs.Concept.{directionOf}
 use Rattle.records.specs.ConceptRecord.{tokenAt}
+use Rattle.records.specs.InRange.{TokenInRange}
+use Rattle.records.proofs.PileLaws.{stepToken, left-of-concept, left-of-path, only-everything, only-empty, concept-token as puts-concept, path-token as puts-path}
 use Rattle.chase.specs.Facts.{Facts, member, equal, related, _⊕_}
 use Rattle.chase.specs.Tokens.{startOf, HasConcept, HasPath, stepNumber, factsAt, pathFactsAt, endAt}
 use Rattle.chase.proofs.PileLaws.{start-le}
 use Rattle.chase.proofs.TokenLaws.{Reads, ReadsStep, ReadsPath, concept-reads, path-reads}
 use Rattle.chase.proofs.ReadingLaws.{facts-class, facts-everything, facts-constant, facts-both, facts-reached, facts-common, facts-empty, facts-step}
 use Rattle.primary.specs.Words.{part}
-use Rattle.tokens.proofs.EndLaws.{concept-some, path-some}
+use Rattle.tokens.proofs.EndLaws.{concept-some, path-some, concept-pile, path-pile}
 use Rattle.asked.specs.declared.words.Kind.{Kind}
 use Rattle.asked.specs.declared.words.Words.{Words}
-use Rattle.asked.specs.Listed.{Grown, directionOf}
-use Rattle.asked.specs.Places.{Named, Place, belowStart, bothFacts, commonFacts, stepFacts}
+use Rattle.asked.specs.Listed.{Grown}
+use Rattle.asked.specs.Places.{Place, belowStart, bothFacts, commonFacts, stepFacts}
 use Rattle.asked.proofs.GrownLaws.{grown-none, grown-join, grown-suc, grown-late, grown-one}
 use Rattle.asked.proofs.PlaceLaws.{place-earlier, place-grown, place-end}
 
@@ -79,35 +82,6 @@ put-at : {k : Kind} {x r : Words} (facts : ℕ → Facts) (start : ℕ → ℕ) 
     → Grown k (facts end) (start end) end x r
 put-at facts start next f s g = rw (next, f, s) g
 
--- the tokens by their places in the enum: those that the code does not name where a concept ends, and where a path ends
-abbrev left-of-concept : List ℕ
-left-of-concept = 1 ∷ 4 ∷ 5 ∷ 6 ∷ []
-
-abbrev left-of-path : List ℕ
-left-of-path = 0 ∷ 1 ∷ 2 ∷ 3 ∷ 4 ∷ 7 ∷ 8 ∷ []
-
-only-everything : (w : List ℕ) (d : ℕ) (t : Token) → OneOf left-of-concept (tagOf the-type t) → Reads w d t → Reads w d Everything
-only-everything w d (Class A) k h = absurd (miss left-of-concept 0 tt k)
-only-everything w d Everything k h = h
-only-everything w d (Constant a) k h = absurd (miss left-of-concept 2 tt k)
-only-everything w d Both k h = absurd (miss left-of-concept 3 tt k)
-only-everything w d Empty k h = absurd h
-only-everything w d (Forward P) k h = absurd h
-only-everything w d (Backward P) k h = absurd h
-only-everything w d Reached k h = absurd (miss left-of-concept 7 tt k)
-only-everything w d Common k h = absurd (miss left-of-concept 8 tt k)
-
-only-empty : (w : List ℕ) (d : ℕ) (t : Token) → OneOf left-of-path (tagOf the-type t) → ReadsPath w d t → ReadsPath w d Empty
-only-empty w d (Class A) k h = absurd h
-only-empty w d Everything k h = absurd h
-only-empty w d (Constant a) k h = absurd h
-only-empty w d Both k h = absurd h
-only-empty w d Empty k h = h
-only-empty w d (Forward P) k h = absurd (miss left-of-path 5 tt k)
-only-empty w d (Backward P) k h = absurd (miss left-of-path 6 tt k)
-only-empty w d Reached k h = absurd h
-only-empty w d Common k h = absurd h
-
 module _ {w : List ℕ} {first end n : ℕ} {x : Words} (z : Place w first end n x) (top : HasConcept w end) where
   pub concept-next : end ≡ suc (end - 1)
   concept-next = omega (arith, concept-some w end top)
@@ -116,8 +90,8 @@ module _ {w : List ℕ} {first end n : ℕ} {x : Words} (z : Place w first end n
   concept-token {t} q = concept-reads w (end - 1) t (subst (HasConcept w) concept-next top) q
 
   -- what the token names
-  pub concept-named : {t : Token} → tokenAt w (end - 1) ≡ t → Named t
-  concept-named q = subst Named q (z .limits .named (end - 1) (omega (arith, concept-next, z .within)))
+  pub concept-named : {t : Token} → tokenAt w (end - 1) ≡ t → TokenInRange t
+  concept-named q = subst TokenInRange q (z .limits .named (end - 1) (omega (arith, concept-next, z .within)))
 
   module _ {k : Kind} {r : Words} where
     put : {F : Facts} {b : ℕ} → factsAt first w (suc (end - 1)) n ≡ F → startOf w (suc (end - 1)) 1 ≡ b → Grown k F b (suc (end - 1)) x r
@@ -147,12 +121,8 @@ module _ {w : List ℕ} {first end n : ℕ} {x : Words} (z : Place w first end n
   pub everything-put : {k : Kind} → OneOf left-of-concept (tagOf the-type (tokenAt w (end - 1)))
       → Grown k (factsAt first w end n) (startOf w end 1) end x x
   everything-put {k} o =
-      let h = only-everything w (end - 1) (tokenAt w (end - 1)) o (concept-token refl) in
+      let h = concept-token (only-everything (tokenAt w (end - 1)) o (puts-concept w (end - 1) end concept-next (concept-pile w end top))) in
       put (facts-everything first w (end - 1) n h) (h .1) (grown-none k x (end - 1) (suc (end - 1)) (z .size) (omega arith))
-
-abbrev pub stepToken : Bool → ℕ → Token
-stepToken false P = Forward P
-stepToken true P = Backward P
 
 module _ {w : List ℕ} {first end n : ℕ} {x : Words} (z : Place w first end n x) (top : HasPath w end) where
   pub path-next : end ≡ suc (end - 1)
@@ -161,14 +131,14 @@ module _ {w : List ℕ} {first end n : ℕ} {x : Words} (z : Place w first end n
   path-token : {t : Token} → tokenAt w (end - 1) ≡ t → ReadsPath w (end - 1) t
   path-token {t} q = path-reads w (end - 1) t (subst (HasPath w) path-next top) q
 
-  pub step-token : (b : Bool) (P : ℕ) → tokenAt w (end - 1) ≡ stepToken b P → ReadsStep w (end - 1) (directionOf b) P
+  pub step-token : (b : Bool) (P : ℕ) → tokenAt w (end - 1) ≡ stepToken (directionOf b) P → ReadsStep w (end - 1) (directionOf b) P
   step-token false P q = path-token q
   step-token true P q = path-token q
 
-  path-named : {t : Token} → tokenAt w (end - 1) ≡ t → Named t
-  path-named q = subst Named q (z .limits .named (end - 1) (omega (arith, path-next, z .within)))
+  path-named : {t : Token} → tokenAt w (end - 1) ≡ t → TokenInRange t
+  path-named q = subst TokenInRange q (z .limits .named (end - 1) (omega (arith, path-next, z .within)))
 
-  pub step-named : (b : Bool) (P : ℕ) → tokenAt w (end - 1) ≡ stepToken b P → P < maxAttributes
+  pub step-named : (b : Bool) (P : ℕ) → tokenAt w (end - 1) ≡ stepToken (directionOf b) P → P < maxAttributes
   step-named false P q = path-named q
   step-named true P q = path-named q
 
@@ -177,7 +147,7 @@ module _ {w : List ℕ} {first end n : ℕ} {x : Words} (z : Place w first end n
       → Grown k (pathFactsAt first w end n) (startOf w end 1) end x r
   put-path = put-at (λ e. pathFactsAt first w e n) (λ e. startOf w e 1) path-next
 
-  pub step-put : {k : Kind} {r : Words} (b : Bool) (P : ℕ) → tokenAt w (end - 1) ≡ stepToken b P
+  pub step-put : {k : Kind} {r : Words} (b : Bool) (P : ℕ) → tokenAt w (end - 1) ≡ stepToken (directionOf b) P
       → Grown k (stepFacts first w (end - 1) n P b) (belowStart w (end - 1)) (suc (end - 1)) x r
       → Grown k (pathFactsAt first w end n) (startOf w end 1) end x r
   step-put b P q g = let h = step-token b P q in put-path (facts-step first w (end - 1) n (directionOf b) P h .0) (h .1) g
@@ -185,5 +155,5 @@ module _ {w : List ℕ} {first end n : ℕ} {x : Words} (z : Place w first end n
   pub empty-put : {k : Kind} → OneOf left-of-path (tagOf the-type (tokenAt w (end - 1)))
       → Grown k (pathFactsAt first w end n) (startOf w end 1) end x x
   empty-put {k} o =
-      let h = only-empty w (end - 1) (tokenAt w (end - 1)) o (path-token refl) in
+      let h = path-token (only-empty (tokenAt w (end - 1)) o (puts-path w (end - 1) end path-next (path-pile w end top))) in
       put-path (facts-empty first w (end - 1) n h .0) (h .1) (grown-none k x (end - 1) (suc (end - 1)) (z .size) (omega arith))

@@ -1,33 +1,20 @@
 -- Places: what is known at one is known at the next, and the list still has room there.
-use Prim.Native.Nat.{ℕ, zero, suc, _-_, _^_, _≤_, _<_}
-use native.Mathlib.Nat.{le-of-suc-le-suc, eq-or-lt-of-le}
+use Prim.Native.Nat.{ℕ, _-_, _^_, _≤_, _<_}
 use native.Mathlib.Omega.{arith}
 use mathlib.Core.Bool.{Bool, true, false}
 use mathlib.Core.List.{List}
-use mathlib.Core.Logic.{⊎-elim}
-use mathlib.Core.Path.{_≡_, refl, ap}
+use mathlib.Core.Path.{_≡_, refl}
 use Rattle.records.specs.Layout.{conceptLayout, entries, querySteps}
 use Rattle.records.specs.Finite.{count}
 use Rattle.records.specs.Refusal.{stepAt, steps}
+use Rattle.records.proofs.FiniteLaws.{count-mono}
 use Rattle.chase.specs.Facts.{Facts}
 use Rattle.chase.specs.Tokens.{HasPath, stepNumber, endAt}
-use Rattle.chase.proofs.TestLaws.{cond-elim}
 use Rattle.tokens.proofs.EndLaws.{end-step, end-empty}
 use Rattle.asked.specs.declared.words.Kind.{Kind}
 use Rattle.asked.specs.declared.words.Words.{Words}
 use Rattle.asked.specs.Listed.{Room, Grown}
 use Rattle.asked.specs.Places.{Place}
-
--- the steps before a place are among all steps
-count-next : (f : ℕ → Bool) (n : ℕ) → count n f ≤ count (suc n) f
-unfolding count
-count-next f n = cond-elim (λ c. count n f ≤ c) (f n) (λ _. omega arith) (λ _. omega arith)
-
-count-mono : (f : ℕ → Bool) (i n : ℕ) → i ≤ n → count i f ≤ count n f
-count-mono f i zero h = let q : i ≡ zero = omega arith in omega (arith, ap (λ (j : ℕ). count j f) q)
-count-mono f i (suc n) h =
-    ⊎-elim (λ q. omega (arith, ap (λ (j : ℕ). count j f) q))
-    (λ l. omega (arith, count-mono f i n (le-of-suc-le-suc l), count-next f n)) (eq-or-lt-of-le h)
 
 module _ {w : List ℕ} {first e n : ℕ} {x : Words} (z : Place w first e n x) where
   pub place-earlier : {d : ℕ} → d ≤ e → Place w first d n x

@@ -1,11 +1,9 @@
 -- Words that stand for facts of one kind, and how a function adds the facts that it was asked for.
 use Prim.Native.Nat.{ℕ, _+_, _≤_, _<_}
-use mathlib.Core.Bool.{Bool, true, false}
 use mathlib.Core.List.{List, _++_, map}
 use mathlib.Core.Path.{_≡_}
 use lib.ListN.{length, take, set}
 use Rattle.records.specs.Layout.{maxTokens}
-use Rattle.records.specs.Concept.{Direction, forward, backward}
 use Rattle.chase.specs.Facts.{Facts}
 use Rattle.primary.specs.Words.{memberOf, equationOf, edgeOf}
 use Rattle.asked.specs.declared.words.Kind.{Kind}
@@ -36,7 +34,3 @@ pub record Grown (k : Kind) (F : Facts) (start end : ℕ) (x y : Words) : Type 0
   pub adds : Adds k F (listed x) (listed y)
   pub fits : y .count + start ≤ x .count + end
   pub size : length (y .words) ≡ maxTokens
-
-abbrev pub directionOf : Bool → Direction
-directionOf false = forward
-directionOf true = backward

@@ -4,33 +4,20 @@ use mathlib.Core.Bool.{Bool}
 use mathlib.Core.List.{List}
 use mathlib.Core.Path.{_≡_}
 use lib.ListN.{length}
-use Rattle.records.specs.declared.concept.Token.{Token}
-use Rattle.records.specs.declared.concept.Token.the-variants.{Class, Everything, Constant, Both, Empty, Forward, Backward, Reached, Common}
-use Rattle.records.specs.Layout.{conceptLayout, entries, maxTokens, maxClasses, maxAttributes, maxConstants, querySteps}
+use Rattle.records.specs.Layout.{conceptLayout, entries, maxTokens, querySteps}
+use Rattle.records.specs.Concept.{directionOf}
 use Rattle.records.specs.ConceptRecord.{tokenAt}
 use Rattle.records.specs.Refusal.{steps}
+use Rattle.records.specs.InRange.{TokenInRange}
 use Rattle.chase.specs.Facts.{Facts, equal, related, _⊕_}
 use Rattle.chase.specs.Tokens.{startOf, stepNumber, factsAt, pathFactsAt, endAt}
 use Rattle.asked.specs.declared.words.Words.{Words}
-use Rattle.asked.specs.Listed.{directionOf}
-
--- the number that a token names is below its limit
-abbrev pub Named : Token → Type 0
-Named (Class A) = A < maxClasses
-Named Everything = Unit {0}
-Named (Constant a) = a < maxConstants
-Named Both = Unit {0}
-Named Empty = Unit {0}
-Named (Forward P) = P < maxAttributes
-Named (Backward P) = P < maxAttributes
-Named Reached = Unit {0}
-Named Common = Unit {0}
 
 -- the limits that an accepted query keeps
 pub record Limits (w : List ℕ) : Type 0 where
   pub few : entries conceptLayout w ≤ maxTokens
   pub steps : steps w ≤ querySteps
-  pub named : (i : ℕ) → i < entries conceptLayout w → Named (tokenAt w i)
+  pub named : (i : ℕ) → i < entries conceptLayout w → TokenInRange (tokenAt w i)
 
 -- an item ends at e; the list has room for a word a token
 pub record Place (w : List ℕ) (first e n : ℕ) (x : Words) : Type 0 where

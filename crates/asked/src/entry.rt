@@ -1,8 +1,8 @@
 // The facts of an accepted query.
 use crate::items::concept;
 use crate::words::Kind;
-use crate::words::MAX_WORDS;
 use crate::words::Words;
+use records::concept::MAX_TOKENS;
 use records::concept::tokens;
 use records::layout::word;
 ghost use Rattle.records.specs.Layout.{querySteps};
@@ -20,7 +20,7 @@ pub fn asked(schema: &[u16], query: &[u16], kind: Kind) -> Words
     let start = word(query, 1);
     let none = Words {
         count: 0,
-        words: [0; MAX_WORDS],
+        words: [0; MAX_TOKENS],
     };
     concept(query, kind, start + 1, tokens(query), start, none)
 }

@@ -1,17 +1,14 @@
 // A list of words with room for the facts of a query, and the three kinds of fact that it may hold. A fact of another kind
 // leaves it as it was.
+use primary::rules::PART;
+use records::concept::MAX_TOKENS;
+use records::layout::narrow;
 ghost use mathlib.Core.Path.{_≡_};
 ghost use Prim.Native.Nat.{_<_, _^_};
-ghost use Rattle.records.specs.Concept.{forward};
+ghost use Rattle.records.specs.Concept.{forward, directionOf};
 ghost use Rattle.chase.specs.Facts.{member, equal, related};
 ghost use Rattle.primary.specs.Words.{part};
-ghost use Rattle.asked.specs.Listed.{Room, pushed, Grown, directionOf};
-
-// There are no more facts than tokens.
-pub const MAX_WORDS: usize = 64;
-
-// A part of a fact is below this.
-const PART: usize = 32;
+ghost use Rattle.asked.specs.Listed.{Room, pushed, Grown};
 
 pub enum Kind {
     Members,
@@ -19,16 +16,10 @@ pub enum Kind {
     Edges,
 }
 
+// There are no more facts than tokens.
 pub struct Words {
     pub count: usize,
-    pub words: [u16; MAX_WORDS],
-}
-
-fn narrow(x: usize) -> u16
-    requires { ⌜ x < 2 ^ 16 ⌝ }
-    ensures { λ r. ⌜ r ≡ x ⌝ }
-{
-    x as u16
+    pub words: [u16; MAX_TOKENS],
 }
 
 impl Words {

@@ -2,9 +2,9 @@
 use crate::members::class_rows;
 use crate::names::name_facts;
 use crate::pairs::pair_rows;
-use crate::put::FACTS;
 use forest::objects::OBJECTS;
 use records::schema::signature_of;
+use records::state::MAX_FACTS;
 ghost use mathlib.Core.Path.{_≡_};
 ghost use lib.ListN.{length};
 ghost use Rattle.records.specs.Layout.{maxFacts};
@@ -23,7 +23,7 @@ pub fn facts(
     g: usize,
     n: usize,
     total: usize,
-    out: &mut [u32; FACTS],
+    out: &mut [u32; MAX_FACTS],
 ) -> usize
     requires { ⌜ Ready (now schema) (now reps) first (now edges) (now objects) g n total ⌝ }
     requires { ⌜ length (now out) ≡ maxFacts ⌝ }

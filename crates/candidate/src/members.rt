@@ -1,10 +1,10 @@
 // The facts that put objects into classes.
-use crate::put::FACTS;
 use crate::put::fact;
 use crate::put::put_if;
 use classes::sets::has;
 use forest::objects::OBJECTS;
 use forest::objects::classes_of;
+use records::state::MAX_FACTS;
 ghost use Prim.Native.Nat.{_+_, _<_, _≤_};
 ghost use mathlib.Core.List.{[]};
 ghost use Rattle.records.specs.Layout.{maxClasses};
@@ -24,7 +24,7 @@ fn class_row(
     n: usize,
     total: usize,
     class: usize,
-    out: &mut [u32; FACTS],
+    out: &mut [u32; MAX_FACTS],
     count: usize,
 ) -> usize
     requires { ⌜ AcceptedSchema (now schema) × Kept g n (now objects) × (total ≤ n + 1) × (class < maxClasses) ⌝ }
@@ -47,7 +47,7 @@ pub fn class_rows(
     n: usize,
     total: usize,
     classes: usize,
-    out: &mut [u32; FACTS],
+    out: &mut [u32; MAX_FACTS],
     count: usize,
 ) -> usize
     requires { ⌜ AcceptedSchema (now schema) × Kept g n (now objects) × (total ≤ n + 1) × (classes ≤ maxClasses) ⌝ }

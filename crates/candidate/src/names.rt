@@ -1,9 +1,9 @@
 // The facts that name the constants' objects. The constants' nodes stand in a row from `first`.
-use crate::put::CONSTANT_KINDS;
-use crate::put::FACTS;
 use crate::put::fact;
 use crate::put::put_if;
 use ground::number::object_of;
+use records::state::CONSTANT_KINDS;
+use records::state::MAX_FACTS;
 ghost use Prim.Native.Nat.{_+_, _≤_};
 ghost use lib.ListN.{length};
 ghost use Rattle.records.specs.Layout.{maxConstants};
@@ -16,7 +16,7 @@ pub fn name_facts(
     reps: &[u32],
     first: usize,
     constants: usize,
-    out: &mut [u32; FACTS],
+    out: &mut [u32; MAX_FACTS],
     count: usize,
 ) -> usize
     requires { ⌜ Inside (now reps) × (length (now reps) ≤ maxNodes) × (first + constants ≤ length (now reps)) × (constants ≤ maxConstants) ⌝ }

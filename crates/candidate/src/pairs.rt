@@ -1,6 +1,4 @@
 // The facts that are pairs of attributes: those of the query, and one to the made value or to the closing object.
-use crate::put::ATTRIBUTE_KINDS;
-use crate::put::FACTS;
 use crate::put::fact;
 use crate::put::put_if;
 use classes::collect::needs_mask;
@@ -9,7 +7,10 @@ use forest::objects::OBJECTS;
 use forest::objects::asks;
 use forest::objects::classes_of;
 use forest::objects::kid;
-use forest::objects::wide;
+use primary::rules::PART;
+use records::layout::wide;
+use records::state::ATTRIBUTE_KINDS;
+use records::state::MAX_FACTS;
 ghost use Prim.Native.Nat.{ℕ, _+_, _<_, _≤_};
 ghost use mathlib.Core.List.{List, []};
 ghost use mathlib.Core.Path.{_≡_};
@@ -23,9 +24,6 @@ ghost use Rattle.ground.specs.Objects.{forestIn, groundIn};
 ghost use Rattle.forest.specs.Kept.{Kept};
 ghost use Rattle.candidate.specs.Writing.{Room, Wrote};
 ghost use Rattle.candidate.specs.Facts.{valueFacts, linkFacts, valueAt, pairRow};
-
-// A part of an edge's word is below this.
-const PART: usize = 32;
 
 // The query has the pair (d, e) of the attribute.
 fn linked(edges: &[u16], attribute: usize, d: usize, e: usize) -> bool
@@ -46,7 +44,7 @@ fn link_facts(
     g: usize,
     attribute: usize,
     d: usize,
-    out: &mut [u32; FACTS],
+    out: &mut [u32; MAX_FACTS],
     count: usize,
 ) -> usize
     requires { ⌜ (g ≤ maxObjects) × (attribute < maxAttributes) × (d < objectPart) ⌝ }
@@ -67,7 +65,7 @@ fn asked_facts(
     g: usize,
     attribute: usize,
     d: usize,
-    out: &mut [u32; FACTS],
+    out: &mut [u32; MAX_FACTS],
     count: usize,
 ) -> usize
     requires { ⌜ (g ≤ maxObjects) × (attribute < maxAttributes) × (d < objectPart) ⌝ }
@@ -113,7 +111,7 @@ fn value_facts(
     value: usize,
     attribute: usize,
     d: usize,
-    out: &mut [u32; FACTS],
+    out: &mut [u32; MAX_FACTS],
     count: usize,
 ) -> usize
     requires { ⌜ (value ≤ objectPart) × (attribute < maxAttributes) × (d < objectPart) ⌝ }
@@ -137,7 +135,7 @@ fn pair_facts(
     mask: u32,
     attribute: usize,
     d: usize,
-    out: &mut [u32; FACTS],
+    out: &mut [u32; MAX_FACTS],
     count: usize,
 ) -> usize
     requires { ⌜ AcceptedSchema (now schema) × Kept g n (now objects) × (attribute < maxAttributes) × (d ≤ n) × (mask ≡ collect (schemaOf (now schema)) (needsBy attribute)) ⌝ }
@@ -158,7 +156,7 @@ fn pair_row(
     n: usize,
     total: usize,
     attribute: usize,
-    out: &mut [u32; FACTS],
+    out: &mut [u32; MAX_FACTS],
     count: usize,
 ) -> usize
     requires { ⌜ AcceptedSchema (now schema) × Kept g n (now objects) × (total ≤ n + 1) × (attribute < maxAttributes) ⌝ }
@@ -182,7 +180,7 @@ pub fn pair_rows(
     n: usize,
     total: usize,
     attributes: usize,
-    out: &mut [u32; FACTS],
+    out: &mut [u32; MAX_FACTS],
     count: usize,
 ) -> usize
     requires { ⌜ AcceptedSchema (now schema) × Kept g n (now objects) × (total ≤ n + 1) × (attributes ≤ maxAttributes) ⌝ }

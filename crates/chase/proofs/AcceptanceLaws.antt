@@ -1,6 +1,6 @@
 -- Accepted records make a well-formed task within the limits: they name what is declared, and a concept has the steps that its
 -- record counts.
-use Prim.Native.Nat.{ℕ, zero, _≤_}
+use Prim.Native.Nat.{ℕ, zero, _≤_, _<_}
 use native.Mathlib.Omega.{arith}
 use mathlib.Core.Bool.{false, So, not, _&&_}
 use mathlib.Core.List.{List}
@@ -11,11 +11,12 @@ use Rattle.records.specs.declared.schema.Axiom.{Axiom}
 use Rattle.records.specs.declared.schema.Axiom.the-variants.{Subclass, Typing, Necessary, Single, Relates}
 use Rattle.records.specs.declared.schema.Signature.{Signature}
 use Rattle.records.specs.Finite.{count}
-use Rattle.records.specs.Layout.{schemaLayout, conceptLayout, sizeAt, entries, leftAt, maxClasses, maxAttributes, maxConstants, maxAxioms, querySteps, viewSteps}
+use Rattle.records.specs.Layout.{conceptLayout, sizeAt, entries, leftAt, maxClasses, maxAttributes, maxConstants, querySteps, viewSteps}
 use Rattle.records.specs.SchemaRecord.{signatureOf, schemaOf}
 use Rattle.records.specs.ConceptRecord.{pileAfter, conceptOf}
-use Rattle.records.specs.Refusal.{misshapen, outside, oversized, declares, isConcept, steps, faultyToken, refusal-1, refusal-2, refusal-4, refusal-5, refusal-6, AcceptedSchema, AcceptedConcept}
+use Rattle.records.specs.Refusal.{outside, declares, isConcept, steps, faultyToken, refusal-2, refusal-4, refusal-5, refusal-6, AcceptedSchema, AcceptedConcept}
 use Rattle.records.proofs.AcceptedLaws.{passes-1, passes-2, passes-4, passes-5, passes-6, axiom-declared, token-faultless}
+pub use Rattle.records.proofs.AcceptedLaws.{signature-few as accepted-signature}
 use Rattle.chase.specs.Steps.{conceptSteps}
 use Rattle.chase.specs.Declared.{DeclaredAxiom, Declared}
 use Rattle.chase.specs.Task.{Task, WellFormed, taskOf}
@@ -63,15 +64,17 @@ accepted-declared s w b c =
     (λ i h. not-false _ (or-false (outside 1 9 (leftAt conceptLayout w i)) _ (token-faultless s w b i h) .1))
     (accepted-concept w c .0)
 
+pub accepted-axioms : (w : List ℕ) → refusal-2 w ≡ false → (i : ℕ) → i < schemaOf w .axioms
+    → DeclaredAxiom (schemaOf w .signature) (schemaOf w .axiomAt i)
+unfolding schemaOf
+accepted-axioms w a i h = declares-is (signatureOf w) (schemaOf w .axiomAt i) (axiom-declared w a i h)
+
 pub accepted-formed : (schema query view : List ℕ) → refusal-2 schema ≡ false → refusal-4 (signatureOf schema) query ≡ false
     → refusal-5 query ≡ false
     → WellFormed (taskOf schema query view)
 unfolding taskOf schemaOf
 accepted-formed schema query view a b c =
-    record {
-      axioms = λ i h. declares-is (signatureOf schema) (schemaOf schema .axiomAt i) (axiom-declared schema a i h);
-      query = accepted-declared (signatureOf schema) query b c;
-    }
+    record { axioms = accepted-axioms schema a; query = accepted-declared (signatureOf schema) query b c }
 
 -- a well-formed task within the limits of records
 pub record Within (t : Task) : Type 0 where
@@ -81,17 +84,6 @@ pub record Within (t : Task) : Type 0 where
   pub constants : t .schema .signature .constants ≤ maxConstants
   pub query : conceptSteps (t .query) ≤ querySteps
   pub view : conceptSteps (t .view) ≤ viewSteps
-
-pub accepted-signature : (w : List ℕ) → refusal-1 w ≡ false
-    → (signatureOf w .classes ≤ maxClasses) × (signatureOf w .attributes ≤ maxAttributes) × (signatureOf w .constants ≤ maxConstants)
-unfolding refusal-1
-accepted-signature w q =
-    let s = signatureOf w in
-    let (sizes, _) = or-false (oversized s (entries schemaLayout w)) (misshapen schemaLayout w) q in
-    let (names, _) = or-false _ (ltb maxAxioms (entries schemaLayout w)) sizes in
-    let (k, c) = or-false _ (ltb maxConstants (s .constants)) names in
-    let (a, b) = or-false (ltb maxClasses (s .classes)) (ltb maxAttributes (s .attributes)) k in
-    (ltb-false maxClasses (s .classes) a, ltb-false maxAttributes (s .attributes) b, ltb-false maxConstants (s .constants) c)
 
 module _ (schema query view : List ℕ) (legal : AcceptedSchema schema) (asked : AcceptedConcept querySteps (signatureOf schema) query)
     (stored : AcceptedConcept viewSteps (signatureOf schema) view) where

@@ -1,7 +1,10 @@
 -- What holds of each entry of a list, and what is an entry.
+use Prim.Native.Nat.{ℕ, zero, suc, _<_}
+use native.Mathlib.Omega.{arith}
 use mathlib.Core.List.{List, [], _∷_, _++_, map}
 use mathlib.Core.Logic.{_⊎_, inl, inr, ⊎-elim}
 use mathlib.Core.Path.{_≡_, refl, ap, subst}
+use lib.ListN.{length, getD}
 
 module _ {A : Type 0} where
   abbrev pub All : (A → Type 0) → List A → Type 0
@@ -59,6 +62,12 @@ all-mapped X f (x ∷ xs) h = (h .0, all-mapped X f xs (h .1))
 pub all-unmapped : {A B : Type 0} (X : B → Type 0) (f : A → B) (xs : List A) → All X (map f xs) → All (λ a. X (f a)) xs
 all-unmapped X f [] h = tt
 all-unmapped X f (x ∷ xs) h = (h .0, all-unmapped X f xs (h .1))
+
+-- by its place
+pub all-getD : (X : ℕ → Type 0) (l : List ℕ) → All X l → (i : ℕ) → i < length l → X (getD l i 0)
+all-getD X [] h i k = absurd (omega arith)
+all-getD X (x ∷ l) h zero k = h .0
+all-getD X (x ∷ l) h (suc i) k = all-getD X l (h .1) i (omega arith)
 
 -- entries of a mapped list
 pub mem-mapped : {A B : Type 0} (f : A → B) (a : A) (xs : List A) → Mem a xs → Mem (f a) (map f xs)

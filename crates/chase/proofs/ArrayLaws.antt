@@ -1,8 +1,7 @@
 -- The forest kept in arrays: made object k stands at entry k - objects of the makers, the attributes and the class sets.
--- A made value is found by a search over the entries.
 use Prim.Native.Nat.{ℕ, zero, suc, _+_, _-_, _≤_, _<_}
 use native.Mathlib.Omega.{arith}
-use mathlib.Core.Bool.{Bool, cond, _&&_}
+use mathlib.Core.Bool.{Bool, cond}
 use mathlib.Core.List.{[], _∷_}
 use mathlib.Core.Path.{_≡_, refl, sym, ap, ap₂, _∙_}
 use lib.Dec.{eqb}
@@ -10,9 +9,8 @@ use lib.ListN.{length, getD, length-append, List·getD-append}
 use lib.Seq.{getD-at}
 use borrow.Author.Tests.{eq-eqb, ne-eqb}
 use Rattle.records.specs.Schema.{Schema}
-use Rattle.chase.specs.Loops.{upto}
 use Rattle.chase.specs.Ground.{Ground}
-use Rattle.chase.specs.Forest.{Forest, bare, grow, size, kid, parent, classesOf, entries, makers, labels, madeSets}
+use Rattle.chase.specs.Forest.{Forest, bare, grow, size, parent, classesOf, entries, makers, labels, madeSets}
 use Rattle.chase.proofs.Numbers.{up-to}
 
 -- an older entry stays, and the newest is last
@@ -77,35 +75,3 @@ module _ (G : Ground) where
 
       maker : ℕ → ℕ → ℕ → ℕ
       maker = λ d P c. d
-
--- loops with the same rounds
-upto-same : {X : Type 0} (run also : ℕ → X → X) (n : ℕ) → ((i : ℕ) → i < n → (x : X) → run i x ≡ also i x) → (x : X)
-    → upto run n x ≡ upto also n x
-unfolding upto
-upto-same run also zero h x = refl
-upto-same run also (suc n) h x = h n (omega arith) (upto run n x) ∙ ap (also n) (upto-same run also n (λ i k. h i (omega arith)) x)
-
--- the made value of P at d is the last entry that has both, if any
-module _ (G : Ground) (P d : ℕ) where
-  abbrev pub sought : Forest → ℕ → ℕ → ℕ
-  sought T i v = cond (eqb (getD (makers T) i 0) d && eqb (getD (labels T) i 0) P) (suc (G .objects + i)) v
-
-  pub kid-entries : (T : Forest) → kid G T P d ≡ upto (sought T) (length (makers T)) zero
-  unfolding kid size upto entries
-  kid-entries bare = refl
-  kid-entries (grow T m R c) =
-      let U = grow T m R c in
-      let n = length (makers T) in
-      let same : length (labels T) ≡ n = omega (arith, entries-length (λ d P c. P) G T, entries-length (λ d P c. d) G T) in
-      let last : sought U n (kid G T P d) ≡ kid G U P d
-      = ap₂ (λ (i j : ℕ). cond (eqb i d && eqb j P) (suc (G .objects + n)) (kid G T P d)) (newest (λ d P c. d) T m R c n refl)
-      (newest (λ d P c. P) T m R c n same)
-      ∙ ap (λ (k : ℕ). cond (eqb m d && eqb R P) (suc k) (kid G T P d)) (entries-length (λ d P c. d) G T) in
-      let before : upto (sought U) n zero ≡ kid G T P d
-      = upto-same (sought U) (sought T) n
-      (λ i h v.
-      ap₂ (λ (i′ j : ℕ). cond (eqb i′ d && eqb j P) (suc (G .objects + i)) v) (older (λ d P c. d) T m R c i h)
-      (older (λ d P c. P) T m R c i (omega arith))) zero
-      ∙ sym (kid-entries T) in
-      let more : length (makers U) ≡ suc n = omega (arith, length-append (makers T) (m ∷ [])) in
-      sym (ap (λ (k : ℕ). upto (sought U) k zero) more ∙ ap (sought U n) before ∙ last)

@@ -1,5 +1,5 @@
 -- Counting and listing the numbers below n that pass a test: they are numbered in order and without gaps.
-use Prim.Native.Nat.{ℕ, zero, suc, _≤_, _<_}
+use Prim.Native.Nat.{ℕ, zero, suc, _<_}
 use native.Mathlib.Omega.{arith}
 use native.Mathlib.Decide.{decLt}
 use mathlib.Core.Bool.{Bool, false, So, cond}
@@ -11,7 +11,7 @@ use lib.Seq.{getD-at}
 use borrow.Author.Tests.{eqb-true, eqb-false}
 use Rattle.records.specs.Finite.{count}
 use Rattle.records.proofs.BoolLaws.{false-of}
-use Rattle.records.proofs.FiniteLaws.{none-count}
+use Rattle.records.proofs.FiniteLaws.{none-count, count-mono}
 pub use Rattle.records.proofs.FiniteLaws.{count-le, any-of, any-found}
 use Rattle.chase.specs.Loops.{upto}
 use Rattle.chase.specs.Ground.{listing}
@@ -19,10 +19,6 @@ use Rattle.chase.proofs.TestLaws.{cond-elim, cond-elim₂}
 use Rattle.chase.proofs.Numbers.{up-to}
 
 module _ (test : ℕ → Bool) where
-  count-step : (n : ℕ) → count n test ≤ count (suc n) test
-  unfolding count
-  count-step n = cond-elim (λ c. count n test ≤ c) (test n) (λ _. omega arith) (λ _. omega arith)
-
   pub count-next : (n : ℕ) → So (test n) → count (suc n) test ≡ suc (count n test)
   unfolding count
   count-next n h = ap (λ (b : Bool). cond b (suc (count n test)) (count n test)) h
@@ -32,7 +28,7 @@ module _ (test : ℕ → Bool) where
   count-lt zero i h p = absurd (omega arith)
   count-lt (suc n) i h p =
       up-to (λ j. So (test j) → count j test < count (suc n) test) n
-      (λ j k q. omega (arith, count-lt n j k q, count-step n)) (λ q. omega (arith, count-next n q)) i h p
+      (λ j k q. omega (arith, count-lt n j k q, count-mono test n (suc n) (omega arith))) (λ q. omega (arith, count-next n q)) i h p
 
   pub count-same : (n : ℕ) → test n ≡ false → count (suc n) test ≡ count n test
   unfolding count

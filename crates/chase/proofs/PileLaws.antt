@@ -12,6 +12,7 @@ use Rattle.records.specs.declared.concept.Token.{Token}
 use Rattle.records.specs.declared.concept.Token.the-variants.{Class, Everything, Constant, Both, Empty, Forward, Backward, Reached, Common}
 use Rattle.records.specs.Concept.{Direction, forward, backward, Concept, class, everything, constant, both, reached, common, Path, empty, step}
 use Rattle.records.specs.ConceptRecord.{Item, concept, path, Pile, takeConcept, takePath, tokenAt, push, after, pileAfter}
+use Rattle.records.proofs.PileLaws.{took-concept, took-path}
 use Rattle.chase.specs.Tokens.{takes, startOf}
 
 -- an item's own token, its last one
@@ -51,18 +52,6 @@ none≢some r q = let z : _≡_ {A = ℕ} 0 1 = cc in omega arith
 some-injective : (s r : List Item) → _≡_ {A = Pile} (some s) (some r) → r ≡ s
 some-injective s r q = cc
 
-took-concept : (s r : List Item) (rest : Concept → List Item → Pile) → takeConcept s rest ≡ some r
-    → (C : Concept) × (b : List Item) × (s ≡ concept C ∷ b) × (rest C b ≡ some r)
-took-concept [] r rest q = absurd (none≢some r q)
-took-concept (concept C ∷ s) r rest q = (C, s, refl, q)
-took-concept (path p ∷ s) r rest q = absurd (none≢some r q)
-
-took-path : (s r : List Item) (rest : Path → List Item → Pile) → takePath s rest ≡ some r
-    → (p : Path) × (b : List Item) × (s ≡ path p ∷ b) × (rest p b ≡ some r)
-took-path [] r rest q = absurd (none≢some r q)
-took-path (concept C ∷ s) r rest q = absurd (none≢some r q)
-took-path (path p ∷ s) r rest q = (p, s, refl, q)
-
 -- a token that takes nothing, one item, or two
 puts-none : (x : Item) (s r : List Item) → operands x ≡ [] → _≡_ {A = Pile} (some (x ∷ s)) (some r) → Put (lastToken x) s r
 puts-none x s r o q = record {
@@ -89,8 +78,8 @@ puts-step : (r : Direction) (P : ℕ) (s t : List Item)
     → takeConcept s (λ C a. takePath a λ p b. some (path (step p r P C) ∷ b)) ≡ some t
     → (p : Path) × (C : Concept) × Put (lastToken (path (step p r P C))) s t
 puts-step r P s t q =
-    let c = took-concept s t _ q in
-    let p = took-path (c .1) t _ (c .3) in
+    let c = took-concept (λ x. x ≡ some t) (none≢some t) s _ q in
+    let p = took-path (λ x. x ≡ some t) (none≢some t) (c .1) _ (c .3) in
     (p .0, c .0, puts-two (path (step (p .0) r P (c .0))) (concept (c .0)) (path (p .0)) s (c .1) (p .1) t refl (c .2) (p .2) (p .3))
 
 push-puts : (token : Token) (s r : List Item) → push token s ≡ some r → Put token s r
@@ -98,18 +87,18 @@ push-puts (Class A) s r q = puts-none (concept (class A)) s r refl q
 push-puts Everything s r q = puts-none (concept everything) s r refl q
 push-puts (Constant a) s r q = puts-none (concept (constant a)) s r refl q
 push-puts Both s r q =
-    let d = took-concept s r _ q in
-    let c = took-concept (d .1) r _ (d .3) in
+    let d = took-concept (λ x. x ≡ some r) (none≢some r) s _ q in
+    let c = took-concept (λ x. x ≡ some r) (none≢some r) (d .1) _ (d .3) in
     puts-two (concept (both (c .0) (d .0))) (concept (d .0)) (concept (c .0)) s (d .1) (c .1) r refl (d .2) (c .2) (c .3)
 push-puts Empty s r q = puts-none (path empty) s r refl q
 push-puts (Forward P) s r q = puts-step forward P s r q .2
 push-puts (Backward P) s r q = puts-step backward P s r q .2
 push-puts Reached s r q =
-    let p = took-path s r _ q in
+    let p = took-path (λ x. x ≡ some r) (none≢some r) s _ q in
     record { item = concept (reached (p .0)); below = p .1; result = some-injective _ r (p .3); taken = p .2; own = refl }
 push-puts Common s r q =
-    let b = took-path s r _ q in
-    let a = took-path (b .1) r _ (b .3) in
+    let b = took-path (λ x. x ≡ some r) (none≢some r) s _ q in
+    let a = took-path (λ x. x ≡ some r) (none≢some r) (b .1) _ (b .3) in
     puts-two (concept (common (a .0) (b .0))) (path (b .0)) (path (a .0)) s (b .1) (a .1) r refl (b .2) (a .2) (a .3)
 
 takes-operands : (x : Item) → takes (lastToken x) ≡ length (operands x)

@@ -1,28 +1,18 @@
 -- What the code meets token by token, from what a token says (Reads): the facts that the query's tokens ask, in the order in
--- which they are appended, and the walk of the view. There are no more facts than tokens.
-use Prim.Native.Nat.{ℕ, suc, _+_, _≤_}
+-- which they are appended, and the walk of the view.
+use Prim.Native.Nat.{ℕ, suc, _+_}
 use native.Mathlib.Omega.{arith}
-use mathlib.Core.List.{List, append-assoc}
-use mathlib.Core.Path.{_≡_, refl, sym, ap, ap₂, _∙_}
-use lib.ListN.{length, length-append}
+use mathlib.Core.List.{List}
+use mathlib.Core.Path.{_≡_, sym, ap, ap₂, _∙_}
 use Rattle.records.specs.declared.concept.Token.the-variants.{Class, Everything, Constant, Both, Empty, Reached, Common}
 use Rattle.records.specs.Schema.{Schema}
-use Rattle.records.specs.Concept.{Direction, forward, backward, Concept, class, everything, constant, both, reached, common, Path, empty, step}
+use Rattle.records.specs.Concept.{Direction, Concept, class, everything, constant, both, reached, common, Path}
 use Rattle.chase.specs.Steps.{conceptSteps, pathSteps}
-use Rattle.chase.specs.Facts.{Facts, none, member, equal, related, _⊕_, endNode, conceptFacts, pathFacts}
+use Rattle.chase.specs.Facts.{none, member, equal, related, _⊕_, endNode, conceptFacts, pathFacts}
 use Rattle.chase.specs.Ground.{Ground}
 use Rattle.chase.specs.Forest.{Forest, walk, trek}
-use Rattle.chase.specs.Tokens.{startOf, conceptAt, pathAt, HasConcept, HasPath, stepNumber, factsAt, pathFactsAt, endAt}
-use Rattle.chase.proofs.PileLaws.{Ends}
-use Rattle.chase.proofs.SpellingLaws.{Spells, SpellsPath, ends-spells, path-spells}
+use Rattle.chase.specs.Tokens.{startOf, conceptAt, pathAt, stepNumber, factsAt, pathFactsAt, endAt}
 use Rattle.chase.proofs.TokenLaws.{Reads, ReadsStep, ReadsPath, number-concept, number-path}
-
-pub ⊕-assoc : (F G H : Facts) → F ⊕ G ⊕ H ≡ F ⊕ (G ⊕ H)
-⊕-assoc F G H = λ i. record {
-  members = append-assoc (F .members) (G .members) (H .members) i;
-  equations = append-assoc (F .equations) (G .equations) (H .equations) i;
-  edges = append-assoc (F .edges) (G .edges) (H .edges) i;
-}
 
 module _ (first : ℕ) (w : List ℕ) (e n : ℕ) where
   -- the facts are those of the concept that is read
@@ -78,82 +68,6 @@ module _ (first : ℕ) (w : List ℕ) (e n : ℕ) where
             ∙ ap₂ (λ (i j : ℕ). conceptFacts first (conceptAt w e) j i ⊕ related r P (endAt w m n) j ⊕ pathFactsAt first w m n) a b,
         ap₂ (λ (p : Path) (i : ℕ). endNode p n (stepNumber w i)) (h .0) (h .1) ∙ b,
       )
-
--- There are no more facts than tokens, of each item between its start and its end.
-unfoldable pub factsSize : Facts → ℕ
-factsSize F = length (F .members) + length (F .equations) + length (F .edges)
-
-size-append : (F G : Facts) → factsSize (F ⊕ G) ≡ factsSize F + factsSize G
-unfolding factsSize
-size-append F G =
-    omega (
-      arith,
-      length-append (F .members) (G .members),
-      length-append (F .equations) (G .equations),
-      length-append (F .edges)
-          (G .edges),
-    )
-
-size-related : (r : Direction) (P n m : ℕ) → factsSize (related r P n m) ≡ 1
-unfolding factsSize
-size-related forward P n m = refl
-size-related backward P n m = refl
-
-module _ (first : ℕ) (w : List ℕ) where
-  mutual
-    unfolding factsSize
-
-    concept-fits : (C : Concept) (n k b e : ℕ) → Spells w C b e → factsSize (conceptFacts first C n k) + b ≤ e
-    concept-fits (class A) n k b e s = omega (arith, s .0)
-    concept-fits everything n k b e s = omega (arith, s .0)
-    concept-fits (constant a) n k b e s = omega (arith, s .0)
-    concept-fits (both C D) n k b e s =
-        let m = k + conceptSteps C in
-        omega (
-          arith,
-          size-append (conceptFacts first D n m) (conceptFacts first C n k),
-          concept-fits D n m (s .0) (s .1) (s .3),
-          concept-fits C n k b (s .0) (s .2),
-          s .4,
-        )
-    concept-fits (reached p) n k b e s = omega (arith, path-fits p n k b (s .0) (s .1), s .2)
-    concept-fits (common p q) n k b e s =
-        let m = k + pathSteps p in
-        let E = equal (endNode p n k) (endNode q n m) in
-        omega (
-          arith,
-          size-append (pathFacts first q n m ⊕ E) (pathFacts first p n k),
-          size-append (pathFacts first q n m) E,
-          path-fits q n m (s .0) (s .1) (s .3),
-          path-fits p n k b (s .0) (s .2),
-          s .4,
-        )
-
-    path-fits : (p : Path) (n k b e : ℕ) → SpellsPath w p b e → factsSize (pathFacts first p n k) + b ≤ e
-    path-fits empty n k b e s = omega (arith, s .0)
-    path-fits (step p r P C) n k b e s =
-        let m = k + pathSteps p in
-        let j = m + conceptSteps C in
-        let E = related r P (endNode p n k) j in
-        omega (
-          arith,
-          size-append (conceptFacts first C j m ⊕ E) (pathFacts first p n k),
-          size-append (conceptFacts first C j m) E,
-          size-related r P (endNode p n k) j,
-          concept-fits C j m (s .0) (s .1) (s .3),
-          path-fits p n k b (s .0) (s .2),
-          s .4,
-        )
-
-  pub facts-fit : (e n : ℕ) → HasConcept w e → factsSize (factsAt first w e n) + startOf w e 1 ≤ e
-  unfolding HasConcept Ends
-  facts-fit e n h =
-      concept-fits (conceptAt w e) n (stepNumber w (startOf w e 1)) (startOf w e 1) e (ends-spells w (conceptAt w e) e h)
-
-  pub path-facts-fit : (e n : ℕ) → HasPath w e → factsSize (pathFactsAt first w e n) + startOf w e 1 ≤ e
-  unfolding HasPath Ends
-  path-facts-fit e n h =
-      path-fits (pathAt w e) n (stepNumber w (startOf w e 1)) (startOf w e 1) e (path-spells w (pathAt w e) e h)
 
 -- The walk of the concept, and of the path, that ends at e.
 module _ (S : Schema) (G : Ground) (w : List ℕ) where

@@ -12,10 +12,11 @@ use Rattle.records.specs.Concept.{Direction, forward, backward, Concept, class,
 use Rattle.records.specs.declared.schema.Signature.{Signature}
 use Rattle.records.specs.Layout.{conceptLayout, rightAt}
 use Rattle.records.specs.ConceptRecord.{concept, path, Pile, tokenAt, pileAfter, topConcept}
+use Rattle.records.specs.Pile.{topPath}
 use Rattle.records.specs.Refusal.{isConcept, suits}
 use Rattle.chase.specs.Steps.{conceptSteps, pathSteps}
 use Rattle.chase.specs.Declared.{Declared}
-use Rattle.chase.specs.Tokens.{startOf, topPath, conceptAt, pathAt, HasConcept, HasPath, stepNumber}
+use Rattle.chase.specs.Tokens.{startOf, conceptAt, pathAt, HasConcept, HasPath, stepNumber}
 use Rattle.chase.proofs.PileLaws.{lastToken, Ends, ends-token, ends-none, ends-one, ends-two, pile-empty, start-pile}
 use Rattle.chase.proofs.SpellingLaws.{ends-spells, path-spells, concept-number, path-number, concept-declared}
 
@@ -27,7 +28,7 @@ module _ (w : List ℕ) where
       ((h .0, h .1 ∙ ap {B = Pile} (λ (D : Concept). some (concept D ∷ h .0)) (sym q)), q)
 
   ends-path : (p : Path) (e : ℕ) → Ends w (path p) e → HasPath w e × (pathAt w e ≡ p)
-  unfolding Ends HasPath topPath
+  unfolding Ends HasPath
   ends-path p e h =
       let q : pathAt w e ≡ p = ap topPath (h .1) in
       ((h .0, h .1 ∙ ap {B = Pile} (λ (r : Path). some (path r ∷ h .0)) (sym q)), q)

@@ -1,13 +1,14 @@
 -- A concept's tokens, read from the right: what stands on the pile after e tokens, where its tokens start, and the number of a step.
 use Prim.Native.Nat.{ℕ, zero, suc, _+_}
-use mathlib.Core.List.{List, [], _∷_}
-use mathlib.Core.Option.{none, some}
+use mathlib.Core.List.{List, _∷_}
+use mathlib.Core.Option.{some}
 use mathlib.Core.Path.{_≡_}
 use Rattle.records.specs.declared.concept.Token.{Token}
 use Rattle.records.specs.declared.concept.Token.the-variants.{Class, Everything, Constant, Both, Empty, Forward, Backward, Reached, Common}
 use Rattle.records.specs.Finite.{count}
-use Rattle.records.specs.Concept.{Concept, Path, empty}
-use Rattle.records.specs.ConceptRecord.{Item, concept, path, Pile, tokenAt, pileAfter, topConcept}
+use Rattle.records.specs.Concept.{Concept, Path}
+use Rattle.records.specs.ConceptRecord.{Item, concept, path, tokenAt, pileAfter, topConcept}
+use Rattle.records.specs.Pile.{topPath}
 use Rattle.records.specs.Refusal.{isStep}
 use Rattle.chase.specs.Facts.{Facts, endNode, conceptFacts, pathFacts}
 
@@ -28,13 +29,6 @@ unfoldable pub startOf : List ℕ → ℕ → ℕ → ℕ
 startOf w zero k = zero
 startOf w (suc e) zero = suc e
 startOf w (suc e) (suc k) = startOf w e (takes (tokenAt w e) + k)
-
--- the path on top (any, where there is none)
-unfoldable pub topPath : Pile → Path
-topPath none = empty
-topPath (some []) = empty
-topPath (some (concept C ∷ s)) = empty
-topPath (some (path p ∷ s)) = p
 
 -- the concept, or the path, that ends at token e
 abbrev pub conceptAt : List ℕ → ℕ → Concept

@@ -8,7 +8,8 @@ ghost use mathlib.Core.Path.{_≡_};
 ghost use Rattle.records.specs.SchemaRecord.{schemaOf};
 ghost use Rattle.records.specs.Refusal.{AcceptedSchema};
 ghost use Rattle.chase.specs.Axioms.{domainBy, needsBy, singleBy, valuesBy, collect as collectIn, domain as domainIn, values as valuesIn};
-ghost use Rattle.classes.specs.Asked.{addsBy, InRange};
+ghost use Rattle.records.specs.InRange.{AxiomInRange};
+ghost use Rattle.classes.specs.Asked.{addsBy};
 
 // What is collected: for an attribute, and for `Values` at an object with the classes of a set.
 pub enum Asked {
@@ -19,7 +20,7 @@ pub enum Asked {
 }
 
 fn domain_by(attribute: usize, rule: Axiom) -> u32
-    requires { ⌜ InRange rule ⌝ }
+    requires { ⌜ AxiomInRange rule ⌝ }
     ensures { λ r. ⌜ r ≡ domainBy attribute rule ⌝ }
 {
     match rule {
@@ -32,7 +33,7 @@ fn domain_by(attribute: usize, rule: Axiom) -> u32
 }
 
 fn needs_by(attribute: usize, rule: Axiom) -> u32
-    requires { ⌜ InRange rule ⌝ }
+    requires { ⌜ AxiomInRange rule ⌝ }
     ensures { λ r. ⌜ r ≡ needsBy attribute rule ⌝ }
 {
     match rule {
@@ -45,7 +46,7 @@ fn needs_by(attribute: usize, rule: Axiom) -> u32
 }
 
 fn single_by(attribute: usize, rule: Axiom) -> u32
-    requires { ⌜ InRange rule ⌝ }
+    requires { ⌜ AxiomInRange rule ⌝ }
     ensures { λ r. ⌜ r ≡ singleBy attribute rule ⌝ }
 {
     match rule {
@@ -58,7 +59,7 @@ fn single_by(attribute: usize, rule: Axiom) -> u32
 }
 
 fn values_by(set: u32, attribute: usize, rule: Axiom) -> u32
-    requires { ⌜ InRange rule ⌝ }
+    requires { ⌜ AxiomInRange rule ⌝ }
     ensures { λ r. ⌜ r ≡ valuesBy set attribute rule ⌝ }
 {
     match rule {
@@ -71,7 +72,7 @@ fn values_by(set: u32, attribute: usize, rule: Axiom) -> u32
 }
 
 fn adds(asked: Asked, rule: Axiom) -> u32
-    requires { ⌜ InRange rule ⌝ }
+    requires { ⌜ AxiomInRange rule ⌝ }
     ensures { λ r. ⌜ r ≡ addsBy asked rule ⌝ }
 {
     match asked {

@@ -9,7 +9,7 @@ ghost use mathlib.Core.Path.{_≡_};
 ghost use Prim.Native.Nat.{_<_};
 ghost use Rattle.records.specs.Layout.{maxAttributes};
 ghost use Rattle.records.specs.Refusal.{AcceptedSchema};
-ghost use Rattle.classes.specs.Asked.{InRange};
+ghost use Rattle.records.specs.InRange.{AxiomInRange};
 ghost use Rattle.classes.specs.Domains.{entryOf, DomainTable};
 
 // The classes of `set` are to be in the domain of `attribute`.
@@ -20,7 +20,7 @@ struct Entry {
 
 // An axiom of another kind adds nothing, to attribute 0: so the caller stores without a test.
 fn domain_entry(rule: Axiom) -> Entry
-    requires { ⌜ InRange rule ⌝ }
+    requires { ⌜ AxiomInRange rule ⌝ }
     ensures { λ r. ⌜ (r ≡ entryOf rule) × (r .attribute < maxAttributes) ⌝ }
 {
     match rule {

@@ -2,11 +2,11 @@
 use crate::objects::OBJECTS;
 use crate::objects::classes_at;
 use crate::objects::lacks;
-use crate::objects::wide;
 use crate::objects::word;
 use crate::places::Here;
 use classes::closure::image;
 use classes::collect::needs_mask;
+use records::layout::wide;
 ghost use Rattle.forest.specs.Kept.{Grows};
 ghost use Rattle.forest.specs.Places.{madeFor};
 ghost use Rattle.forest.specs.Making.{madeAt, madeAll, CanMake, CanMakeAll, CanMakeFor};

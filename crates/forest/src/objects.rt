@@ -1,6 +1,10 @@
 // What is read of the objects: the first g of n are the ground's, and the rest are made.
 use classes::sets::meets;
+use ground::lay::LINK_PART;
+use primary::rules::PART;
+use records::layout::wide;
 use records::schema::signature_of;
+use records::state::MAX_OBJECTS;
 ghost use Prim.Native.Nat.{ℕ, _≤_, _<_, _^_};
 ghost use mathlib.Core.List.{List};
 ghost use mathlib.Core.Path.{_≡_};
@@ -15,20 +19,10 @@ ghost use Rattle.chase.specs.Forest.{kid as kidIn, parent as parentIn, asks as 
 ghost use Rattle.ground.specs.Objects.{link, objectWord, classesIn, forestIn, groundIn, Laid};
 ghost use Rattle.forest.specs.Kept.{Kept};
 
-pub const OBJECTS: usize = 480;
+pub const OBJECTS: usize = MAX_OBJECTS;
 
-// An object's word is its class set times this plus its link ..
-const LINK_PART: u64 = 65_536;
-// .. and a link is an attribute times this plus a maker.
-const OBJECT_PART: u64 = 512;
-// A part of an edge's word is below this.
-const PART: usize = 32;
-
-pub fn wide(x: u16) -> usize
-    ensures { λ r. ⌜ r ≡ x ⌝ }
-{
-    x as usize
-}
+// A link is an attribute times this plus a maker.
+const OBJECT_PART: u64 = records::state::OBJECT_PART as u64;
 
 fn narrow(x: u64) -> u32
     requires { ⌜ x < 2 ^ 32 ⌝ }

@@ -2,8 +2,9 @@
 use crate::objects::OBJECTS;
 use crate::objects::kid;
 use crate::objects::parent;
-use crate::objects::wide;
 use records::concept::View;
+use records::layout::narrow;
+use records::layout::wide;
 ghost use Prim.Native.Nat.{_≤_, _<_, _^_};
 ghost use mathlib.Core.Path.{_≡_};
 ghost use Rattle.records.specs.Layout.{maxAttributes};
@@ -28,13 +29,6 @@ pub fn begin(n: usize) -> Here
         count: 0,
         at: [0; PLACES],
     }
-}
-
-fn narrow(x: usize) -> u16
-    requires { ⌜ x < 2 ^ 16 ⌝ }
-    ensures { λ r. ⌜ r ≡ x ⌝ }
-{
-    x as u16
 }
 
 impl Here {

@@ -1,6 +1,6 @@
 -- For callers: the laid objects and the renumbered edges are the ground of a task, in all that the made part and the
 -- candidate read of it.
-use Prim.Native.Nat.{ℕ, zero, suc, _^_, _≤_, _<_}
+use Prim.Native.Nat.{ℕ, _^_, _≤_, _<_}
 use native.Mathlib.Omega.{arith}
 use mathlib.Core.List.{List, [], _∷_, map}
 use mathlib.Core.Path.{_≡_, refl, sym, ap, ap₂, subst, _∙_}
@@ -13,7 +13,7 @@ use Rattle.chase.specs.Facts.{Edge}
 use Rattle.chase.specs.Task.{Task, WellFormed, nodes, startNode, constantNode, asked, taskOf}
 use Rattle.chase.specs.Primary.{Prime, repOf, setOf, begin, settled, primary}
 use Rattle.chase.specs.Ground.{setAt, live, objectOf, listing, renumber, groundOf, ground}
-use Rattle.chase.proofs.All.{All, all-unmapped}
+use Rattle.chase.proofs.All.{All, all-unmapped, all-getD}
 use Rattle.chase.proofs.Answers.{ground-is}
 use Rattle.chase.proofs.CountLaws.{count-le}
 use Rattle.chase.proofs.ListLaws.{getD-map}
@@ -34,11 +34,6 @@ sets-back (c ∷ l) = let e : classesIn (groundWord c) ≡ c = omega arith in ap
 renumber-any : (r s : List ℕ) (l : List Edge) → map (renumberIn r) l ≡ map (renumber (prime r s)) l
 unfolding objectOf live repOf
 renumber-any r s l = refl
-
-all-getD : (X : ℕ → Type 0) (l : List ℕ) → All X l → (i : ℕ) → i < length l → X (getD l i 0)
-all-getD X [] h i k = absurd (omega arith)
-all-getD X (x ∷ l) h zero k = h .0
-all-getD X (x ∷ l) h (suc i) k = all-getD X l (h .1) i (omega arith)
 
 -- the representatives and sets are those of the task's primary part
 module _ (t : Task) (r s : List ℕ) (is : prime r s ≡ primary t) where

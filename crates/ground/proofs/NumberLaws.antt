@@ -1,5 +1,5 @@
 -- Counting the live nodes, and laying a word for each: a turn more of a loop over the nodes.
-use Prim.Native.Nat.{ℕ, suc, _+_, _≤_, _<_}
+use Prim.Native.Nat.{ℕ, _+_, _≤_, _<_}
 use native.Mathlib.Nat.{add-zero}
 use native.Mathlib.Numerals.{add-one}
 use native.Mathlib.Omega.{arith}
@@ -11,7 +11,7 @@ use lib.Seq.{take-set-le, take-suc-set}
 use mir.Val.{boolByte}
 use Rattle.records.specs.Finite.{count}
 use Rattle.records.specs.Layout.{maxObjects}
-use Rattle.records.proofs.FiniteLaws.{count-more, count-le}
+use Rattle.records.proofs.FiniteLaws.{count-turn, count-le}
 use Rattle.chase.specs.Loops.{upto}
 use Rattle.chase.specs.Primary.{Prime, repOf, setOf}
 use Rattle.chase.specs.Ground.{live, objectOf, listing}
@@ -24,13 +24,6 @@ use Rattle.ground.specs.Numbers.{Inside, liveIn, objectIn}
 pub count-none : (f : ℕ → Bool) → 0 ≡ count 0 f
 unfolding count
 count-none f = refl
-
-pub count-turn : (f : ℕ → Bool) (i k : ℕ) (b : Bool) → k ≡ count i f → b ≡ f i → k + boolByte b ≡ count (i + 1) f
-count-turn f i k b e q = rw (count-more f i, ← q, e) (one b)
-  where
-    one : (b : Bool) → count i f + boolByte b ≡ cond b (suc (count i f)) (count i f)
-    one true = omega arith
-    one false = omega arith
 
 -- the word at the end stays if its number passes
 laid-turn : (test : ℕ → Bool) (f word : ℕ → ℕ) (l : List ℕ) (i k v : ℕ) (b : Bool) → k < length l → b ≡ test i → v ≡ word (f i)
@@ -72,10 +65,6 @@ module _ (x : Prime) where
 pub live-any : (r s : List ℕ) (n : ℕ) → liveIn r n ≡ live (prime r s) n
 unfolding live repOf
 live-any r s n = refl
-
-pub object-any : (r s : List ℕ) (n : ℕ) → objectIn r n ≡ objectOf (prime r s) n
-unfolding objectOf live repOf
-object-any r s n = refl
 
 -- an object's number has room in a part of an edge
 pub object-part : (r : List ℕ) (n k : ℕ) → Inside r × (n < length r) → length r ≤ maxNodes → k ≡ objectIn r n → k < part

@@ -1,6 +1,7 @@
 // The objects of the ground in the array of all objects, each a word of its class set and the mark that it was not made.
 use crate::number::live;
 use primary::prime::set_of;
+use records::state::MAX_OBJECTS;
 ghost use mathlib.Core.Path.{_≡_};
 ghost use Prim.Native.Nat.{_≤_};
 ghost use lib.ListN.{length};
@@ -8,9 +9,6 @@ ghost use Rattle.records.specs.Layout.{maxObjects};
 ghost use Rattle.primary.specs.Formed.{prime, maxNodes, Formed};
 ghost use Rattle.ground.specs.Objects.{groundWord};
 ghost use Rattle.ground.specs.Laying.{Grounds};
-
-// The most objects that a state can have.
-pub const OBJECTS: usize = 480;
 
 // A word's part for the link of a made object, and the link that none has.
 pub const LINK_PART: u64 = 65536;
@@ -24,7 +22,7 @@ fn ground_word(set: u32) -> u64
 }
 
 // Returns how many objects there are. The word of a node that is not live is written over by the next.
-pub fn lay(reps: &[u32], sets: &[u32], objects: &mut [u64; OBJECTS]) -> usize
+pub fn lay(reps: &[u32], sets: &[u32], objects: &mut [u64; MAX_OBJECTS]) -> usize
     requires { ⌜ Formed (now reps) (now sets) × (length (now reps) ≤ maxNodes) × (length (now objects) ≡ maxObjects) ⌝ }
     ensures { λ r. ⌜ Grounds (prime (now (reps .entry)) (now (sets .entry))) (length (now (reps .entry))) r (now (objects .exit)) ⌝ }
 {

@@ -1,15 +1,15 @@
 // Objects have the numbers of the live nodes, in order: those that are their own representatives.
 use primary::prime::wide;
+use primary::rules::PART;
+use records::layout::narrow;
+use records::layout::wide as wide_word;
 ghost use mathlib.Core.Path.{_≡_};
 ghost use mathlib.Core.List.{map};
-ghost use Prim.Native.Nat.{_<_, _≤_, _^_};
+ghost use Prim.Native.Nat.{_<_, _≤_};
 ghost use lib.ListN.{length};
 ghost use Rattle.primary.specs.Formed.{maxNodes};
 ghost use Rattle.primary.specs.Words.{edgeOf, EdgeIn, EdgesIn};
 ghost use Rattle.ground.specs.Numbers.{Inside, liveIn, objectIn, renumberIn, renumberWord};
-
-// A part of an edge is below this.
-const PART: usize = 32;
 
 pub fn live(reps: &[u32], n: usize) -> bool
     requires { ⌜ n < length (now reps) ⌝ }
@@ -29,19 +29,6 @@ pub fn object_of(reps: &[u32], n: usize) -> usize
         before += live(reps, i) as usize;
     }
     before
-}
-
-fn wide_word(x: u16) -> usize
-    ensures { λ r. ⌜ r ≡ x ⌝ }
-{
-    x as usize
-}
-
-fn narrow(x: usize) -> u16
-    requires { ⌜ x < 2 ^ 16 ⌝ }
-    ensures { λ r. ⌜ r ≡ x ⌝ }
-{
-    x as u16
 }
 
 // An edge between nodes as one between their objects.

@@ -1,6 +1,6 @@
 -- What the answers on accepted records say, in the terms of records' definitions: legal means Legal, and an object that is
 -- answered is the lowest Counterexample, and where none is answered there is none. (For select: isIn-iff of records.)
-use Prim.Native.Nat.{ℕ, _≤_, _<_}
+use Prim.Native.Nat.{ℕ, _<_}
 use mathlib.Core.List.{List}
 use mathlib.Core.Bool.{Bool, true, false, So, cond, not, _&&_, false≢true}
 use mathlib.Core.Logic.{_↔_}
@@ -8,20 +8,20 @@ use mathlib.Core.Path.{_≡_, refl, sym, ap, subst, _∙_}
 use native.Mathlib.Omega.{arith}
 use native.Mathlib.Decide.{decLt}
 use lib.Dec.{eqb, ltb}
-use borrow.Author.Tests.{eq-eqb, eqb-true, lt-ltb, ltb-true, not-false}
-use Rattle.records.specs.Finite.{any, count, least}
+use borrow.Author.Tests.{eq-eqb, eqb-true, lt-ltb, ltb-true}
+use Rattle.records.specs.Finite.{any, count}
 use Rattle.records.specs.Layout.{stateLayout, entries}
 use Rattle.records.specs.declared.schema.Signature.{Signature}
 use Rattle.records.specs.State.{State, Names}
-use Rattle.records.specs.Schema.{Schema, Holds, Legal}
+use Rattle.records.specs.Schema.{Schema, Legal}
 use Rattle.records.specs.Concept.{Concept}
 use Rattle.records.specs.Semantics.{In}
 use Rattle.records.specs.Subsumption.{Counterexample}
 use Rattle.records.specs.Executable.{isIn, holds, firstBroken}
-use Rattle.records.specs.StateRecord.{objects, objectAt, stateOf}
+use Rattle.records.specs.StateRecord.{objects, stateOf}
 use Rattle.records.specs.Refusal.{namesAt, shares, misnames, refusal-10, AcceptedState}
 use Rattle.records.proofs.BoolLaws.{or-false-right}
-use Rattle.records.proofs.FiniteLaws.{any-found, any-none, count-found, least-le, least-passes, least-first, least-is}
+use Rattle.records.proofs.FiniteLaws.{any-found, any-none, count-found, least-passes, least-first, least-is}
 use Rattle.records.proofs.ExecutableLaws.{isIn-iff, holds-iff, first-broken-none}
 use Rattle.records.proofs.AcceptedLaws.{passes-8, passes-10, fact-faultless, constant-once}
 use Rattle.records.proofs.StateScanLaws.{name-is, fact-object}

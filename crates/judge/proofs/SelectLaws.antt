@@ -1,10 +1,10 @@
 -- The outcome of select, by the first refusal that applies, or by the set that evaluation gives.
 use Prim.Native.Nat.{ℕ, zero, suc, _≤_, _<_}
-use mathlib.Core.List.{List, _∷_, [], _++_}
-use mathlib.Core.Bool.{Bool, true, false, So, cond, _&&_}
-use mathlib.Core.Path.{_≡_, refl, sym, ap, _∙_}
+use mathlib.Core.List.{List, _++_}
+use mathlib.Core.Bool.{Bool, false, So}
+use mathlib.Core.Path.{_≡_, refl, _∙_}
 use native.Mathlib.Omega.{arith}
-use lib.Dec.{eqb, ltb}
+use lib.Dec.{eqb}
 use lib.ListN.{drop}
 use borrow.Author.Tests.{lt-ltb}
 use Rattle.records.specs.Finite.{count}

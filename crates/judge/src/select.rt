@@ -12,7 +12,7 @@ ghost use Prim.Native.Nat.{_≤_};
 ghost use lib.ListN.{length, drop};
 ghost use Rattle.records.specs.Finite.{count};
 ghost use Rattle.index.specs.BitSet.{bitAt};
-ghost use Rattle.judge.specs.Select.{Outcome, marks, selectOutcome};
+ghost use Rattle.judge.specs.Select.{marks, selectOutcome};
 
 pub enum SelectAnswer {
     // How many objects are selected.

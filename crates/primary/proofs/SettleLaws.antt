@@ -1,36 +1,26 @@
 -- Why the repeated pass ends at the primary part: each round starts at a part x in order from which the model settles at the
 -- same end, and leaves the pass of x. Where the weight stands still, that is the end.
-use Prim.Native.Nat.{ℕ, zero, suc, _-_, _≤_, _<_}
+use Prim.Native.Nat.{ℕ, _-_, _≤_, _<_}
 use native.Mathlib.Omega.{arith}
-use mathlib.Core.Bool.{_||_}
-use mathlib.Core.List.{List, [], _∷_, map}
+use mathlib.Core.List.{List, [], map}
 use mathlib.Core.Logic.{_≢_}
 use mathlib.Core.Path.{_≡_, refl, sym, ap, subst, _∙_}
-use lib.Dec.{ltb}
 use lib.ListN.{length, getD}
-use borrow.Author.Tests.{ltb-false}
-use Rattle.records.specs.Layout.{schemaLayout, entries, querySteps, maxClasses, maxAttributes, maxConstants, maxAxioms}
+use Rattle.records.specs.Layout.{querySteps}
 use Rattle.records.specs.SchemaRecord.{signatureOf, schemaOf}
-use Rattle.records.specs.Refusal.{misshapen, oversized, refusal-1, AcceptedSchema}
-use Rattle.records.proofs.BoolLaws.{or-false-left, or-false-right}
+use Rattle.records.specs.Refusal.{AcceptedSchema}
 use Rattle.records.proofs.AcceptedLaws.{passes-1, passes-2, passes-4, passes-5, passes-6}
 use Rattle.chase.specs.Task.{Task, WellFormed, nodes, asked, taskOf}
 use Rattle.chase.specs.Primary.{Prime, repOf, pass, weight, begin, bound, settled, primary}
-use Rattle.chase.proofs.All.{All, all-unmapped}
-use Rattle.chase.proofs.AcceptanceLaws.{accepted-formed, accepted-limit}
+use Rattle.chase.proofs.All.{All, all-unmapped, all-getD}
+use Rattle.chase.proofs.AcceptanceLaws.{accepted-signature, accepted-formed, accepted-limit}
 use Rattle.chase.proofs.LoopLaws.{grows-le, still}
 use Rattle.chase.proofs.PrimeLaws.{Ok, weight-bound}
 use Rattle.chase.proofs.PrimaryLaws.{within, pass-grows, begin-ok, settled-next, settled-stop}
-use Rattle.classes.proofs.SchemaLaws.{classes-few}
 use Rattle.primary.specs.Formed.{prime, Formed, Becomes, maxNodes}
 use Rattle.primary.specs.Words.{memberOf, equationOf, edgeOf, FactsIn}
 use Rattle.primary.specs.Pass.{passOn}
 use Rattle.primary.specs.Asked.{queryTask, Asks}
-
-all-getD : (X : ℕ → Type 0) (l : List ℕ) → All X l → (i : ℕ) → i < length l → X (getD l i 0)
-all-getD X [] h i k = absurd (omega arith)
-all-getD X (x ∷ l) h zero k = h .0
-all-getD X (x ∷ l) h (suc i) k = all-getD X l (h .1) i (omega arith)
 
 words-in : {A : Type 0} (X : A → Type 0) (f : ℕ → A) (ws : List ℕ) (l : List A) → map f ws ≡ l → All X l → (i : ℕ)
     → i < length ws → X (f (getD ws i 0))
@@ -86,33 +76,25 @@ module _ (s q ms qs es : List ℕ) (asks : Asks s q ms qs es) where
       accepted-formed s q [] (passes-2 s (asks .legal)) (passes-4 querySteps (signatureOf s) q (asks .sound))
       (passes-5 querySteps (signatureOf s) q (asks .sound))
 
-  constants-few : signatureOf s .constants ≤ maxConstants
-  unfolding refusal-1
-  constants-few =
-      ltb-false maxConstants (signatureOf s .constants)
-      (or-false-right (ltb maxClasses (signatureOf s .classes) || ltb maxAttributes (signatureOf s .attributes)) _
-      (or-false-left _ (ltb maxAxioms (entries schemaLayout s))
-      (or-false-left (oversized (signatureOf s) (entries schemaLayout s)) (misshapen schemaLayout s) (passes-1 s (asks .legal)))))
-
   pub nodes-few : nodes (queryTask s q) ≤ maxNodes
   unfolding taskOf schemaOf
   nodes-few =
       omega (
         arith,
-        constants-few,
+        accepted-signature s (passes-1 s (asks .legal)),
         accepted-limit q (passes-5 querySteps (signatureOf s) q (asks .sound)) querySteps
             (passes-6 querySteps (signatureOf s) q (asks .sound)),
       )
 
   pub asks-facts : FactsIn (nodes (queryTask s q)) ms qs es
-  unfolding taskOf
+  unfolding taskOf schemaOf
   asks-facts =
       let n = nodes (queryTask s q) in
       let w = within (queryTask s q) asks-formed in
       record {
         members = λ i h.
             let k = words-in (λ m. (m .class < schemaOf s .signature .classes) × (m .node < n)) memberOf ms _ (asks .classes) (w .members) i h in
-            (omega (arith, k .0, classes-few s (asks .legal)), k .1);
+            (omega (arith, k .0, accepted-signature s (passes-1 s (asks .legal))), k .1);
         equations = words-in (λ m. (m .left < n) × (m .right < n)) equationOf qs _ (asks .equal) (w .equations);
         edges = λ i h.
             let k = words-in (λ m. (m .origin < n) × (m .target < n)) edgeOf es _ (asks .related) (w .edges) i h in

@@ -9,6 +9,7 @@ use classes::collect::single_mask;
 use classes::collect::values;
 use classes::sets::meets;
 use classes::sets::place;
+use records::layout::wide;
 ghost use mathlib.Core.Path.{_≡_};
 ghost use mathlib.Core.List.{map};
 ghost use lib.ListN.{length};
@@ -20,13 +21,7 @@ ghost use Rattle.primary.specs.Formed.{prime, Formed, Becomes};
 ghost use Rattle.primary.specs.Words.{memberOf, equationOf, edgeOf, MembersIn, EquationsIn, EdgeIn, EdgesIn, typeEdge, unifyRow};
 
 // A part of a fact is below this.
-const PART: usize = 32;
-
-fn wide(x: u16) -> usize
-    ensures { λ r. ⌜ r ≡ x ⌝ }
-{
-    x as usize
-}
+pub const PART: usize = 32;
 
 pub fn equate_all(equations: &[u16], reps: &mut [u32], sets: &mut [u32])
     requires { ⌜ Formed (now reps) (now sets) × EquationsIn (length (now reps)) (now equations) ⌝ }

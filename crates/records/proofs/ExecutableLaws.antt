@@ -56,9 +56,6 @@ module _ (I : State) where
   holds-iff (Single A P) = all-iff λ d. implies-iff (all-iff λ e. implies-iff (all-iff λ f. implies-iff (eqb-iff e f)))
   holds-iff (Relates P A B) = all-iff λ d. all-iff λ e. implies-iff (and-iff Iff·rfl Iff·rfl)
 
-  pub holds-dec : (x : Axiom) → Dec (Holds I x)
-  holds-dec x = Dec·of-iff (holds-iff x) (Bool-discrete (holds I x) true)
-
   holds-of : (x : Axiom) → not (holds I x) ≡ false → Holds I x
   holds-of x e = holds-iff x .0 (not-false (holds I x) e)
 

@@ -3,24 +3,24 @@
 use Prim.Native.Nat.{ℕ, zero, suc, _+_, _-_, _≤_, _<_}
 use mathlib.Core.Bool.{Bool, true, false, So, cond, not, _&&_, _||_, false≢true, Bool·not-not}
 use mathlib.Core.List.{List}
-use mathlib.Core.Path.{_≡_, refl, ap, sym, subst, _∙_}
+use mathlib.Core.Path.{_≡_, refl, ap, sym, _∙_}
 use mathlib.Core.Logic.{⊎-elim}
-use native.Mathlib.Nat.{not-suc-le-zero, eq-or-lt-of-le, le-of-suc-le-suc, le-of-eq, le-of-lt}
+use native.Mathlib.Nat.{le-of-eq, le-of-lt}
 use native.Mathlib.Numerals.{add-one, sub-one}
 use native.Mathlib.Decide.{ℕ-discrete, decLt}
 use native.Mathlib.Omega.{arith}
-use borrow.Author.Tests.{lt-ltb, le-ltb, le-leb, lt-leb, eq-eqb, ne-eqb, ltb-true, ltb-false, leb-true, leb-false, eqb-true, eqb-false, not-false}
+use borrow.Author.Tests.{lt-ltb, le-ltb, le-leb, eq-eqb, ne-eqb, ltb-true, leb-true, leb-false, eqb-true, not-false}
 use lib.Dec.{eqb, ltb, leb}
 use lib.ListN.{length, getD, set, length-set, replicate, getD-replicate, List·getD-eq-default}
 use lib.Seq.{getD-set-same, getD-set-other}
 use Rattle.records.specs.declared.schema.Signature.{Signature}
-use Rattle.records.specs.Finite.{any, all, count, least}
-use Rattle.records.specs.Layout.{stateLayout, entries, rightAt, constantKinds, factKinds, attributeKinds}
+use Rattle.records.specs.Finite.{any, all, count}
+use Rattle.records.specs.Layout.{stateLayout, entries, constantKinds, factKinds, attributeKinds}
 use Rattle.records.specs.StateRecord.{kindAt, objectAt, objects, says, stateOf}
-use Rattle.records.specs.Refusal.{ascends, descends, faultyFact, declaresKind, suitsKind, namesAt, shares, misnames, refusal-8, refusal-9, refusal-10}
+use Rattle.records.specs.Refusal.{ascends, descends, faultyFact, declaresKind, namesAt, shares, misnames, refusal-8, refusal-9, refusal-10}
 use Rattle.records.specs.Scan.{followsAt, slotOf, sameObject, repeatsIn, misnamedAt, misnamed}
-use Rattle.records.proofs.BoolLaws.{or-false-left, or-false-right, or-left, or-true-cases, and-left, and-right, and-both, not-both, false-of, false-of-not}
-use Rattle.records.proofs.FiniteLaws.{any-zero, any-still, any-of, any-none, any-found, none-any, any-same, all-more, count-more, count-le, count-one, count-found, none-count, least-is}
+use Rattle.records.proofs.BoolLaws.{or-false-left, or-false-right, or-left, or-true-cases, and-left, and-right, and-both, not-both, false-of}
+use Rattle.records.proofs.FiniteLaws.{any-zero, any-still, any-of, any-none, none-any, any-same, all-more, count-more, count-one, count-found, none-count, least-is}
 
 -- Order.
 

@@ -2,7 +2,6 @@
 -- Plain mathematics; no part of the papers.
 use Prim.Native.Nat.{ℕ, zero, suc}
 use mathlib.Core.Bool.{Bool, true, false, cond, _&&_, _||_}
-use lib.Dec.{ltb}
 
 unfoldable pub all : ℕ → (ℕ → Bool) → Bool
 all zero f = true

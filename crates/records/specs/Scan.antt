@@ -10,7 +10,6 @@ use Rattle.records.specs.declared.concept.Token.the-variants.{Class, Eve
 use Rattle.records.specs.declared.concept.Sorts.{Sorts}
 use Rattle.records.specs.Finite.{any}
 use Rattle.records.specs.Layout.{constantKinds, factKinds, maxConstants}
-use Rattle.records.specs.StateRecord.{kindAt, objectAt}
 use Rattle.records.specs.Refusal.{ascends}
 
 abbrev pub putSort : Sorts → ℕ → Sorts

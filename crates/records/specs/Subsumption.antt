@@ -1,7 +1,7 @@
 -- Document 01, demand 3 and "What can be put to it": counterexample, and its own terms held and open
 -- (the report's subsumption of a query by a view, and its failure). A view is a query whose list is stored.
 use Prim.Native.Nat.{ℕ}
-use Rattle.records.specs.State.{State, Some, Every}
+use Rattle.records.specs.State.{State, Every}
 use Rattle.records.specs.Schema.{Schema, Legal}
 use Rattle.records.specs.Concept.{Concept}
 use Rattle.records.specs.Semantics.{In, Selects}

@@ -7,7 +7,7 @@ use crate::layout::right;
 use crate::layout::word;
 use crate::schema::Signature;
 ghost use mathlib.Core.Path.{_≡_};
-ghost use Prim.Native.Nat.{_≤_, _<_, _^_};
+ghost use Prim.Native.Nat.{_<_, _^_};
 ghost use Rattle.records.specs.Word.{IsWord, IsLayout};
 ghost use Rattle.records.specs.Layout.{entries as entriesOf, conceptLayout, querySteps, viewSteps};
 ghost use Rattle.records.specs.ConceptRecord.{tokenOf, tokenAt};

@@ -3,27 +3,36 @@ use Prim.Native.Nat.{ℕ, suc, _-_, _<_}
 use native.Mathlib.Omega.{arith}
 use mathlib.Core.Bool.{So, false, true≢false, false≢true}
 use mathlib.Core.List.{List}
-use mathlib.Core.Path.{_≡_, refl, ap, subst, _∙_}
+use mathlib.Core.Path.{_≡_, refl, sym, ap, subst, _∙_}
 use Rattle.records.specs.declared.concept.Token.{Token}
 use Rattle.records.specs.declared.concept.Token.the-variants.{Class, Everything, Constant, Both, Empty, Forward, Backward, Reached, Common}
 use Rattle.records.specs.Concept.{forward, backward}
-use Rattle.records.specs.ConceptRecord.{concept, path, tokenAt}
+use Rattle.records.specs.ConceptRecord.{tokenAt, pileAfter}
+use Rattle.records.specs.Pile as pile
 use Rattle.records.specs.Refusal.{isStep, stepAt}
-use Rattle.chase.specs.Tokens.{conceptAt, pathAt, HasConcept, HasPath, stepNumber, endAt}
-use Rattle.chase.proofs.PileLaws.{Ends, at-suc}
+use Rattle.chase.specs.Tokens.{HasConcept, HasPath, stepNumber, endAt}
+use Rattle.records.proofs.PileLaws.{concept-later, path-later}
 use Rattle.chase.proofs.TokenLaws.{ReadsPath, path-reads}
 use Rattle.chase.proofs.ReadingLaws.{facts-empty, facts-step}
 
+module _ (w : List ℕ) (e : ℕ) where
+  -- the item stands on the pile
+  pub concept-pile : HasConcept w e → pile.HasConcept (pileAfter w e)
+  unfolding HasConcept
+  concept-pile h = subst pile.HasConcept (sym (h .1)) tt
+
+  pub path-pile : HasPath w e → pile.HasPath (pileAfter w e)
+  unfolding HasPath
+  path-pile h = subst pile.HasPath (sym (h .1)) tt
+
+  -- it ends after a token at least
+  pub concept-some : HasConcept w e → 0 < e
+  concept-some h = concept-later w e (concept-pile h)
+
+  pub path-some : HasPath w e → 0 < e
+  path-some h = path-later w e (path-pile h)
+
 module _ (w : List ℕ) where
-  -- an item ends after a token at least
-  pub concept-some : (e : ℕ) → HasConcept w e → 0 < e
-  unfolding HasConcept Ends
-  concept-some e h = at-suc w (λ i. 0 < i) (concept (conceptAt w e)) e h (λ d k. omega arith)
-
-  pub path-some : (e : ℕ) → HasPath w e → 0 < e
-  unfolding HasPath Ends
-  path-some e h = at-suc w (λ i. 0 < i) (path (pathAt w e)) e h (λ d k. omega arith)
-
   module _ (e n : ℕ) where
     step-ends : (t : Token) → ReadsPath w e t → So (isStep t) → endAt w (suc e) n ≡ stepNumber w e
     step-ends (Class A) r h = absurd r
@@ -49,7 +58,7 @@ module _ (w : List ℕ) where
 
   module _ (e n : ℕ) (h : HasPath w e) where
     last : e ≡ suc (e - 1)
-    last = omega (arith, path-some e h)
+    last = omega (arith, path-some w e h)
 
     reads : ReadsPath w (e - 1) (tokenAt w (e - 1))
     reads = path-reads w (e - 1) (tokenAt w (e - 1)) (subst (HasPath w) last h) refl

@@ -1,7 +1,7 @@
 -- The scan to the left: a token passed is one item less to want, and its operands more.
 use Prim.Native.Nat.{ℕ, zero, suc, _+_, _-_, _≤_, _<_}
 use native.Mathlib.Omega.{arith}
-use mathlib.Core.Bool.{Bool, So, true, false, cond, _&&_}
+use mathlib.Core.Bool.{Bool, So, false, _&&_}
 use mathlib.Core.List.{List}
 use mathlib.Core.Path.{_≡_, refl, sym, ap, ap₂, _∙_}
 use lib.Dec.{ltb}
@@ -13,7 +13,7 @@ use Rattle.records.specs.ConceptRecord.{tokenAt}
 use Rattle.records.specs.Finite.{count}
 use Rattle.records.specs.Refusal.{stepAt}
 use Rattle.records.proofs.BoolLaws.{and-map, and-both, not-both}
-use Rattle.records.proofs.FiniteLaws.{count-more, count-le}
+use Rattle.records.proofs.FiniteLaws.{count-turn, count-le}
 use Rattle.chase.specs.Tokens.{takes, startOf, stepNumber}
 
 pub takes-few : (t : Token) → takes t ≤ 2
@@ -58,8 +58,4 @@ module _ (w : List ℕ) where
   number-few i n e = omega (arith, e, count-le (stepAt w) i)
 
   pub number-more : (i n : ℕ) (b : Bool) → n ≡ stepNumber w i → b ≡ stepAt w i → n + boolByte b ≡ stepNumber w (i + 1)
-  number-more i n b e h = rw (count-more (stepAt w) i, ← h, e) (one b)
-    where
-      one : (b : Bool) → stepNumber w i + boolByte b ≡ cond b (suc (stepNumber w i)) (stepNumber w i)
-      one true = omega arith
-      one false = omega arith
+  number-more i n b e h = count-turn (stepAt w) i n b e h

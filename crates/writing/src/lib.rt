@@ -1,5 +1,6 @@
 // Writes the record of a state from the list of its facts, each a number of two words (crate chase: Written). It changes the
 // lent words that the record takes, and no later ones.
+use records::layout::narrow;
 ghost use mathlib.Core.Path.{_≡_};
 ghost use mathlib.Core.List.{map, _++_};
 ghost use Prim.Native.Nat.{_+_, _*_, _<_, _≤_, _^_};
@@ -22,13 +23,6 @@ fn word_of(half: Half, fact: u32) -> u16
         Half::Left => (fact / WORD) as u16,
         Half::Right => (fact % WORD) as u16,
     }
-}
-
-fn narrow(x: usize) -> u16
-    requires { ⌜ x < 2 ^ 16 ⌝ }
-    ensures { λ r. ⌜ r ≡ x ⌝ }
-{
-    x as u16
 }
 
 // One word of each fact, at the start of the lent words.

@@ -1,8 +1,6 @@
 -- One more than the object fits, as the answer says (CounterexampleFits).
 use borrow.Author.Needs.{needs}
-use mathlib.Core.Path.{sym, ap}
 use native.Mathlib.Omega.{arith}
-use Rattle.bikuvoa_c.specs.Answers.{CounterexampleFits, counterexampleWrites}
 use Rattle.bikuvoa_c.proofs.counterexample_writes.Statement.{statement}
 use Rattle.bikuvoa_c.proofs.counterexample_writes.Tie as tie
 

@@ -1,8 +1,6 @@
 -- One more than the place fits, as the answer says (LegalFits).
 use borrow.Author.Needs.{needs}
-use mathlib.Core.Path.{sym, ap}
 use native.Mathlib.Omega.{arith}
-use Rattle.bikuvoa_c.specs.Answers.{LegalFits, legalWrites}
 use Rattle.bikuvoa_c.proofs.legal_writes.Statement.{statement}
 use Rattle.bikuvoa_c.proofs.legal_writes.Tie as tie
 

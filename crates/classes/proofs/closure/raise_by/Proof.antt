@@ -2,7 +2,7 @@
 use mathlib.Core.Bool.{true, false}
 use mathlib.Core.Path.{subst, sym, _∙_}
 use Rattle.classes.proofs.SchemaLaws.{necessary-raises}
-use Rattle.classes.specs.Asked.{InRange}
+use Rattle.records.specs.InRange.{AxiomInRange}
 use native.Mathlib.Omega.{arith}
 use borrow.Author.Needs.{needs}
 use Rattle.classes.proofs.closure.raise_by.Statement.{statement}
@@ -12,10 +12,10 @@ enum-known-rule : tie.Need-enum-known-rule
 enum-known-rule c = search needs
 
 has-requires : tie.Need-has-requires
-has-requires c κs = subst InRange (c .before .rule .given .1) (c .before .before .before .pre) .0
+has-requires c κs = subst AxiomInRange (c .before .rule .given .1) (c .before .before .before .pre) .0
 
 place-if-requires : tie.Need-place-if-requires
-place-if-requires c κs = subst InRange (c .before .before .rule .given .1) (c .before .before .before .before .pre) .1
+place-if-requires c κs = subst AxiomInRange (c .before .before .rule .given .1) (c .before .before .before .before .pre) .1
 
 enum-told : tie.Need-enum-told
 enum-told c = search needs
@@ -24,13 +24,13 @@ enum-known-rule-2 : tie.Need-enum-known-rule-2
 enum-known-rule-2 c = search needs
 
 has-requires-2 : tie.Need-has-requires-2
-has-requires-2 c κs = subst InRange (c .before .rule2 .given .1) (c .before .before .before .pre) .0
+has-requires-2 c κs = subst AxiomInRange (c .before .rule2 .given .1) (c .before .before .before .pre) .0
 
 mul-result : tie.Need-mul-result
-mul-result c = omega (arith, subst InRange (c .before .before .before .rule2 .given .1) (c .before .before .before .before .before .pre) .1)
+mul-result c = omega (arith, subst AxiomInRange (c .before .before .before .rule2 .given .1) (c .before .before .before .before .before .pre) .1)
 
 element-copy-out-result : tie.Need-element-copy-out-result
-element-copy-out-result c = subst InRange (c .before .before .before .rule2 .given .1) (c .before .before .before .before .before .pre) .1
+element-copy-out-result c = subst AxiomInRange (c .before .before .before .rule2 .given .1) (c .before .before .before .before .before .pre) .1
 
 enum-told-2 : tie.Need-enum-told-2
 enum-told-2 c = search needs
@@ -46,7 +46,7 @@ returns-2 c = λ w d. search needs
 
 returns-3 : tie.Need-returns-3
 returns-3 c = λ w d.
-    d .sets _ (subst InRange (c .before .before .before .before .rule2 .given .1) (c .before .before .before .before .before .before .pre) .1)
+    d .sets _ (subst AxiomInRange (c .before .before .before .before .rule2 .given .1) (c .before .before .before .before .before .before .pre) .1)
     ∙ sym (necessary-raises _ _ _ _ _ true (c .before .before .before .before .rule2 .given .1) (sym (c .before .if1 .taken) ∙ c .before .before .has2 .ensures))
 
 returns-4 : tie.Need-returns-4

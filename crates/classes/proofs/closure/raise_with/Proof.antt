@@ -6,9 +6,9 @@ use native.Mathlib.Nat.{le-antisymm}
 use Rattle.records.specs.SchemaRecord.{schemaOf}
 use Rattle.chase.specs.Loops.{upto}
 use Rattle.chase.specs.Axioms.{raiseBy, raise}
-use Rattle.classes.specs.Asked.{InRange}
+use Rattle.records.specs.InRange.{AxiomInRange}
 use Rattle.classes.proofs.TurnLaws.{upto-none, upto-more, upto-all}
-use Rattle.classes.proofs.SchemaLaws.{axiom-in-range}
+use Rattle.records.proofs.AcceptedLaws.{axiom-in-range}
 use native.Mathlib.Omega.{arith}
 use borrow.Author.Needs.{needs}
 use Rattle.classes.proofs.closure.raise_with.Statement.{statement}
@@ -31,7 +31,7 @@ axiom-at-requires c κs = search needs
 
 raise-by-requires : tie.Need-raise-by-requires Inv-loop μ-loop
 raise-by-requires c κs =
-    subst InRange (sym (c .axiom-at .ensures)) (axiom-in-range _ (c .before .before .before .before .before .pre .0) _ (omega arith))
+    subst AxiomInRange (sym (c .axiom-at .ensures)) (axiom-in-range _ (c .before .before .before .before .before .pre .0) _ (omega arith))
 
 add-i : tie.Need-add-i Inv-loop μ-loop
 add-i c = search needs

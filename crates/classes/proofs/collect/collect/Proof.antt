@@ -5,10 +5,11 @@ use mathlib.Core.Path.{_≡_, sym, subst, _∙_}
 use Rattle.records.specs.SchemaRecord.{schemaOf}
 use Rattle.chase.specs.Loops.{upto}
 use Rattle.chase.specs.Axioms.{collect}
-use Rattle.classes.specs.Asked.{addsBy, InRange}
+use Rattle.records.specs.InRange.{AxiomInRange}
+use Rattle.classes.specs.Asked.{addsBy}
 use Rattle.classes.proofs.TurnLaws.{upto-none, upto-more, upto-all}
 use native.Mathlib.Nat.{le-antisymm}
-use Rattle.classes.proofs.SchemaLaws.{axiom-in-range}
+use Rattle.records.proofs.AcceptedLaws.{axiom-in-range}
 use native.Mathlib.Omega.{arith}
 use borrow.Author.Needs.{needs}
 use Rattle.classes.proofs.collect.collect.Statement.{statement}
@@ -30,7 +31,7 @@ axiom-at-requires : tie.Need-axiom-at-requires Inv-loop μ-loop
 axiom-at-requires c κs = search needs
 
 adds-requires : tie.Need-adds-requires Inv-loop μ-loop
-adds-requires c κs = subst InRange (sym (c .axiom-at .ensures)) (axiom-in-range _ (c .before .before .before .before .before .pre) _ (omega arith))
+adds-requires c κs = subst AxiomInRange (sym (c .axiom-at .ensures)) (axiom-in-range _ (c .before .before .before .before .before .pre) _ (omega arith))
 
 add-i : tie.Need-add-i Inv-loop μ-loop
 add-i c = search needs

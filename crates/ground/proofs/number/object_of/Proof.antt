@@ -5,11 +5,11 @@ use native.Mathlib.Nat.{le-antisymm}
 use native.Mathlib.Omega.{arith}
 use mathlib.Core.Path.{_≡_, ap, _∙_}
 use Rattle.records.proofs.ConceptScanLaws.{byte-small}
-use Rattle.records.proofs.FiniteLaws.{count-le}
+use Rattle.records.proofs.FiniteLaws.{count-le, count-turn}
 use Rattle.records.specs.Finite.{count}
 use Rattle.chase.specs.Ground.{objectOf}
 use Rattle.chase.specs.Primary.{repOf}
-use Rattle.ground.proofs.NumberLaws.{count-none, count-turn}
+use Rattle.ground.proofs.NumberLaws.{count-none}
 use Rattle.ground.specs.Numbers.{liveIn}
 use Rattle.ground.proofs.number.object_of.Statement.{statement}
 use Rattle.ground.proofs.number.object_of.Tie as tie

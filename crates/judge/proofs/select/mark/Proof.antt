@@ -4,7 +4,7 @@ use Rattle.judge.proofs.MarkLaws.{marks-more, marks-none}
 use Rattle.judge.specs.Select.{marks}
 use borrow.Author.Needs.{needs}
 use lib.ListN.{drop, length, length-set}
-use mathlib.Core.Path.{_∙_, _≡_, refl}
+use mathlib.Core.Path.{_≡_, refl}
 use native.Mathlib.Omega.{arith}
 use native.Mathlib.Nat.{le-antisymm}
 use mathlib.Core.List.{_++_}
