@@ -13,8 +13,9 @@ use Rattle.records.specs.declared.concept.Token.the-variants.{Class, Constant, 
 use Rattle.records.specs.Layout.{maxAttributes}
 use Rattle.records.specs.Concept.{directionOf}
 use Rattle.records.specs.ConceptRecord.{tokenAt}
+use Rattle.records.specs.Pile.{stepToken}
 use Rattle.records.specs.InRange.{TokenInRange}
-use Rattle.records.proofs.PileLaws.{stepToken, left-of-concept, left-of-path, only-everything, only-empty, concept-token as puts-concept, path-token as puts-path}
+use Rattle.records.proofs.PileLaws.{left-of-concept, left-of-path, only-everything, only-empty, concept-token as puts-concept, path-token as puts-path}
 use Rattle.chase.specs.Facts.{Facts, member, equal, related, _⊕_}
 use Rattle.chase.specs.Tokens.{startOf, HasConcept, HasPath, stepNumber, factsAt, pathFactsAt, endAt}
 use Rattle.chase.proofs.PileLaws.{start-le}

@@ -11,7 +11,8 @@ use Rattle.records.specs.SchemaRecord.{schemaOf}
 use Rattle.chase.specs.Ground.{Ground}
 use Rattle.chase.specs.Forest.{Forest}
 use Rattle.chase.specs.Written.{gather, objectFacts}
-use Rattle.classes.proofs.SchemaLaws.{classes-few}
+use Rattle.records.proofs.AcceptedLaws.{passes-1}
+use Rattle.chase.proofs.AcceptanceLaws.{accepted-signature}
 use Rattle.ground.specs.Objects.{groundIn, forestIn}
 use Rattle.forest.proofs.ObjectLaws.{size-laid}
 use Rattle.candidate.specs.Writing.{Room, Wrote}
@@ -19,7 +20,7 @@ use Rattle.candidate.specs.Facts.{classRow, pairRow, nameFacts, factsIn}
 use Rattle.candidate.specs.Ready.{Ready}
 use Rattle.candidate.proofs.WriteLaws.{room-first, room-next, room-as, wrote-as, wrote-then}
 use Rattle.candidate.proofs.SearchLaws.{objects-bound}
-use Rattle.candidate.proofs.BoundLaws.{attributes-few, constants-few, facts-fit}
+use Rattle.candidate.proofs.BoundLaws.{facts-fit}
 use Rattle.candidate.proofs.AgreeLaws.{members-same}
 
 module _ (schema reps : List ℕ) (first : ℕ) (edges words : List ℕ) (g n total : ℕ) (ready : Ready schema reps first edges words g n total)
@@ -58,9 +59,10 @@ module _ (schema reps : List ℕ) (first : ℕ) (edges words : List ℕ) (g n to
   total-bound = omega (arith, ready .number, objects-bound S G T, size-laid g n words (ready .kept .laid) words edges)
 
   pub limits : (s .classes ≤ maxClasses) × (s .attributes ≤ maxAttributes) × (s .constants ≤ maxConstants)
+  unfolding schemaOf
   limits =
       subst (λ (u : Signature). (u .classes ≤ maxClasses) × (u .attributes ≤ maxAttributes) × (u .constants ≤ maxConstants)) (sym is)
-      (classes-few schema (ready .legal), attributes-few schema (ready .legal), constants-few schema (ready .legal))
+      (accepted-signature schema (passes-1 schema (ready .legal)))
 
   pub nodes-inside : first + s .constants ≤ length reps
   nodes-inside = subst (λ (u : Signature). first + u .constants ≤ length reps) (sym is) (ready .constants)

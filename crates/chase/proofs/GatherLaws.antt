@@ -1,5 +1,5 @@
 -- Lists in a row: what their entries are, that they ascend where each list has bounds of its own, and how many entries there are.
-use Prim.Native.Nat.{ℕ, zero, suc, _≤_, _<_}
+use Prim.Native.Nat.{ℕ, zero, suc, _*_, _≤_, _<_}
 use native.Mathlib.Omega.{arith}
 use mathlib.Core.List.{List}
 use mathlib.Core.Logic.{⊎-elim}
@@ -10,7 +10,7 @@ use Rattle.chase.specs.Written.{gather}
 use Rattle.chase.proofs.All.{Mem, mem-left, mem-right, mem-split}
 use Rattle.chase.proofs.Numbers.{up-to}
 use Rattle.chase.proofs.Ascending.{Between, between-none, between-append}
-use Rattle.chase.proofs.PairLaws.{sum-le}
+use Rattle.chase.proofs.PairLaws.{sum-le, sum-same}
 
 module _ (f : ℕ → List ℕ) where
   pub gather-of : (n i x : ℕ) → i < n → Mem x (f i) → Mem x (gather n f)
@@ -39,6 +39,9 @@ module _ (f : ℕ → List ℕ) where
   unfolding gather
   gather-length zero = refl
   gather-length (suc n) = omega (arith, length-append (gather n f) (f n), gather-length n)
+
+  pub gather-bound : (n b : ℕ) → ((i : ℕ) → length (f i) ≤ b) → length (gather n f) ≤ n * b
+  gather-bound n b h = omega (arith, gather-length n, sum-le n (λ i. length (f i)) (λ i. b) h, sum-same n b)
 
 -- rows of rows
 pub gather-rows : (m n : ℕ) (f : ℕ → ℕ → List ℕ) (g : ℕ → ℕ → ℕ) → ((i j : ℕ) → length (f i j) ≤ g i j)

@@ -5,7 +5,7 @@ use native.Mathlib.Omega.{arith}
 use native.Mathlib.Nat.{suc-mul}
 use mathlib.Core.Bool.{Bool, true, false, cond, _&&_, _||_}
 use mathlib.Core.List.{List, [], _∷_}
-use mathlib.Core.Path.{_≡_, refl, ap}
+use mathlib.Core.Path.{_≡_, refl, ap, _∙_}
 use lib.Dec.{eqb}
 use lib.ListN.{length, length-append, length-map}
 use borrow.Author.Tests.{eqb-true, ne-eqb}
@@ -19,7 +19,7 @@ use Rattle.chase.specs.Primary.{primary}
 use Rattle.chase.specs.Facts.{Edge, Facts, equal, related, _⊕_, endNode, conceptFacts, pathFacts}
 use Rattle.chase.specs.Ground.{Ground, listing, renumber, groundOf, ground}
 use Rattle.chase.specs.Forest.{Forest, size, kid, push, lacks}
-use Rattle.chase.specs.Candidate.{links, objects, forest, candidate}
+use Rattle.chase.specs.Candidate.{links, objects}
 use Rattle.chase.specs.Targets.{sum, targets, pairs}
 use Rattle.chase.proofs.TestLaws.{cond-elim, cond-elim₂}
 use Rattle.chase.proofs.CountLaws.{listing-length}
@@ -193,13 +193,6 @@ pub asked-edges : (t : Task) → length (asked t .edges) ≡ conceptSteps (t .qu
 unfolding asked
 asked-edges t = concept-edges (t .query) (suc (conceptSteps (t .query))) (conceptSteps (t .query)) zero
 
-pub candidate-pairs : (t : Task)
-    → pairs (t .schema) (ground t) (forest t) ≤ t .schema .signature .attributes * candidate t .size + conceptSteps (t .query)
+pub ground-edges : (t : Task) → length (ground t .edges) ≡ conceptSteps (t .query)
 unfolding ground groundOf
-candidate-pairs t =
-    omega (
-      arith,
-      pairs-bound (t .schema) (ground t) (forest t),
-      length-map (asked t .edges) (renumber (primary t)),
-      asked-edges t,
-    )
+ground-edges t = length-map (asked t .edges) (renumber (primary t)) ∙ asked-edges t

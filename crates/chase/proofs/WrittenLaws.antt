@@ -1,6 +1,6 @@
 -- The candidate's record. Its facts are just those of the candidate (facts-list), they are few (facts-few), and so the record
 -- is accepted (written-accepted) and stands for a state like the candidate (written-alike).
-use Prim.Native.Nat.{ℕ, suc, _+_, _≤_, _<_}
+use Prim.Native.Nat.{ℕ, suc, _+_, _*_, _≤_, _<_}
 use native.Mathlib.Omega.{arith}
 use native.Mathlib.Nat.{mul-le-mul}
 use mathlib.Core.Bool.{Bool, false, cond}
@@ -18,7 +18,7 @@ use Rattle.chase.specs.Primary.{primary, clash}
 use Rattle.chase.specs.Ground.{Ground, ground}
 use Rattle.chase.specs.Forest.{Forest, classesOf}
 use Rattle.chase.specs.Candidate.{objects, forest, candidate}
-use Rattle.chase.specs.Targets.{sum, targets, pairs}
+use Rattle.chase.specs.Targets.{targets, pairs}
 use Rattle.chase.specs.Written.{wordPart, fact, nameFact, gather, classFacts, pairFacts, objectFacts, facts, written}
 use Rattle.chase.proofs.TestLaws.{cond-elim}
 use Rattle.chase.proofs.All.{All, Mem, all-map, all-mapped, all-of, mem-left, mem-right, mem-split, mem-mapped, mem-unmapped}
@@ -29,11 +29,34 @@ use Rattle.chase.proofs.CandidateLaws.{room}
 use Rattle.chase.proofs.Answers.{names-of, ground-is, forest-is, candidate-legal, is-small}
 use Rattle.chase.proofs.AcceptanceLaws.{Within}
 use Rattle.chase.proofs.TargetLaws.{candidate-targets, candidate-ascends, target-inside}
-use Rattle.chase.proofs.PairLaws.{sum-le, sum-same, candidate-pairs}
-use Rattle.chase.proofs.GatherLaws.{gather-of, gather-is, gather-between, gather-length, gather-rows}
+use Rattle.chase.proofs.PairLaws.{pairs-bound, ground-edges}
+use Rattle.chase.proofs.GatherLaws.{gather-of, gather-is, gather-between, gather-bound, gather-rows}
 use Rattle.chase.proofs.Alike.{Alike}
 use Rattle.chase.proofs.RecordLaws.{record-objects, record-length}
 use Rattle.chase.proofs.FactList.{FactOf, ofClass, ofPair, ofName, Lists, Limited, list-accepted, list-alike}
+
+-- A class has at most all objects, and there are at most as many pairs as objects and edges give.
+pub object-facts-few : (S : Schema) (G : Ground) (T : Forest)
+    → length (objectFacts S G T) ≤ S .signature .classes * objects S G T + (S .signature .attributes * objects S G T + length (G .edges))
+unfolding objectFacts classFacts pairFacts pairs
+object-facts-few S G T =
+    let n = objects S G T in
+    let members : ℕ → List ℕ = λ A. gather n (classFacts S G T A) in
+    let values : ℕ → List ℕ = λ P. gather n (pairFacts S G T P) in
+    omega (
+      arith,
+      length-append (gather (S .signature .classes) members) (gather (S .signature .attributes) values),
+      gather-bound members (S .signature .classes) n
+          (λ A.
+          omega (
+            arith,
+            gather-bound (classFacts S G T A) n 1
+                (λ d. cond-elim {A = List ℕ} (λ l. length l ≤ 1) (has (classesOf S G T d) A) (λ _. omega arith) (λ _. omega arith)),
+          )),
+      gather-rows (S .signature .attributes) n (pairFacts S G T) (λ P d. length (targets S G T P d))
+          (λ P d. omega (arith, length-map (targets S G T P d) (fact (attributeKinds + P) d))),
+      pairs-bound S G T,
+    )
 
 -- Facts of one kind and object lie between its first fact and the next object's, and so in a row over objects and kinds.
 
@@ -188,26 +211,17 @@ module _ (t : Task) (ok : Within t) where
   -- Length.
 
   pub facts-few : length (facts S G T) ≤ maxFacts
-  unfolding facts objectFacts classPart pairPart namePart classFacts pairFacts pairs
+  unfolding facts namePart
   facts-few =
-      let c = S .signature .classes in
-      let p = S .signature .attributes in
       omega (
         arith,
-        length-append (classPart ++ pairPart) namePart,
-        length-append classPart pairPart,
-        gather-rows c n (classFacts S G T) (λ A d. 1)
-            (λ A d. cond-elim {A = List ℕ} (λ l. length l ≤ 1) (has (classesOf S G T d) A) (λ _. omega arith) (λ _. omega arith)),
-        sum-le c (λ A. sum n (λ d. 1)) (λ A. n) (λ A. omega (arith, sum-same n 1)),
-        sum-same c n,
+        length-append (objectFacts S G T) namePart,
+        object-facts-few S G T,
+        ground-edges t,
         mul-le-mul (ok .classes) objects-few,
-        gather-rows p n (pairFacts S G T) (λ P d. length (targets S G T P d))
-            (λ P d. omega (arith, length-map (targets S G T P d) (fact (attributeKinds + P) d))),
-        candidate-pairs t,
         mul-le-mul (ok .attributes) objects-few,
         ok .query,
-        gather-length (λ a. nameFact a (G .constants a) ∷ []) (S .signature .constants),
-        sum-same (S .signature .constants) 1,
+        gather-bound (λ a. nameFact a (G .constants a) ∷ []) (S .signature .constants) 1 (λ a. omega arith),
         ok .constants,
       )
 

@@ -8,7 +8,7 @@ use mathlib.Core.List.{List, [], _∷_}
 use mathlib.Core.Path.{_≡_, refl, sym, ap, ap₂, subst, _∙_}
 use lib.ListN.{length, getD, set, take, length-set}
 use lib.Seq.{getD-set-same, getD-set-other, getD-take, take-set-le, length-take-le, take-all}
-use Rattle.records.specs.Concept.{Direction, forward, backward}
+use Rattle.records.specs.Concept.{Direction, forward, backward, directionOf}
 use Rattle.records.specs.Layout.{maxAttributes, maxObjects, objectPart}
 use Rattle.records.specs.Schema.{Schema}
 use Rattle.records.specs.SchemaRecord.{schemaOf}
@@ -21,7 +21,7 @@ use Rattle.chase.proofs.TestLaws.{cond-elim}
 use Rattle.ground.specs.Objects.{link, objectWord, classesIn, makerIn, forestIn, groundIn}
 use Rattle.forest.specs.declared.places.Here.{Here}
 use Rattle.forest.specs.Kept.{Kept, Grows}
-use Rattle.forest.specs.Places.{directionOf, standing, Stands, madeFor}
+use Rattle.forest.specs.Places.{standing, Stands, madeFor}
 use Rattle.forest.specs.Making.{madeAt, madeAll, CanMake, CanMakeAll, CanMakeFor}
 use Rattle.forest.proofs.ObjectLaws.{ground-kept, size-laid, classes-laid, word-classes, word-maker, forest-grown}
 
@@ -187,9 +187,9 @@ pub listed : {h : Here} → Stands h → h .count ≡ length (standing h)
 listed {h} stands = sym (length-take-le (h .count) (h .at) (omega (arith, stands .few, stands .room)))
 
 -- the values of s and of those on the list where the walk stands
-module _ {schema edges objects : List ℕ} {g P s : ℕ} {h : Here} (ahead : Bool) (q : ahead ≡ true)
-    (can : CanMakeFor schema edges objects g ahead P s h) where
-  all-of : madeFor schema edges objects g ahead P s h
+module _ {schema edges objects : List ℕ} {g P s : ℕ} {h : Here} (back : Bool) (q : back ≡ false)
+    (can : CanMakeFor schema edges objects g back P s h) where
+  all-of : madeFor schema edges objects g back P s h
       ≡ each (make (schemaOf schema) (groundIn g objects edges) P) (standing h) (madeAt schema edges objects g (h .size) P s)
   unfolding each makeFor
   all-of =
@@ -238,15 +238,15 @@ module _ {schema edges objects : List ℕ} {g P s : ℕ} {h : Here} (ahead : Boo
         }
 
     pub made-for : (r : ℕ) (last : List ℕ) → Grows g n r after last (madeAll schema edges after g n P (standing h))
-        → Grows g (h .size) r objects last (madeFor schema edges objects g ahead P s h)
+        → Grows g (h .size) r objects last (madeFor schema edges objects g back P s h)
     made-for r last y =
         subst (Grows g (h .size) r objects last) (sym all-of)
         (grows-then edges (λ H T. each (make (schemaOf schema) H P) (standing h) T) so y)
 
 -- nothing is made before a backward step
-pub made-back : {schema edges objects : List ℕ} {g P s : ℕ} {h : Here} (ahead : Bool) → ahead ≡ false
-    → CanMakeFor schema edges objects g ahead P s h
-    → Grows g (h .size) (h .size) objects objects (madeFor schema edges objects g ahead P s h)
+pub made-back : {schema edges objects : List ℕ} {g P s : ℕ} {h : Here} (back : Bool) → back ≡ true
+    → CanMakeFor schema edges objects g back P s h
+    → Grows g (h .size) (h .size) objects objects (madeFor schema edges objects g back P s h)
 unfolding makeFor
-made-back true q can = absurd (false≢true (sym q))
-made-back false q can = grows-self (can .kept) refl
+made-back false q can = absurd (false≢true q)
+made-back true q can = grows-self (can .kept) refl

@@ -7,7 +7,7 @@ use mathlib.Core.List.{List, [], _∷_, _++_, map, append-nil, append-assoc}
 use mathlib.Core.Path.{_≡_, refl, sym, ap, ap₂, _∙_}
 use lib.Dec.{eqb}
 use lib.ListN.{length, getD, set, take, drop, length-map, length-drop}
-use lib.Seq.{take-suc, take-suc-set, length-take-le, drop-append-le, drop-length, getD-take, getD-drop, take-set-le}
+use lib.Seq.{take-suc, take-suc-set, length-take-le, drop-append-le, drop-length, getD-take, getD-drop}
 use borrow.Author.Tests.{ne-eqb, lt-ltb, le-ltb}
 use Rattle.records.specs.Layout.{maxAttributes, objectPart}
 use Rattle.records.specs.Schema.{Schema}
@@ -180,6 +180,3 @@ module _ (c P d : ℕ) (a : P < maxAttributes) (b : d < objectPart) where
       forest-stored g n objects word h k
       ∙ ap₂ (λ (m R : ℕ). grow (forestIn g n objects) m R (classesIn word)) word-maker word-attribute
       ∙ ap (grow (forestIn g n objects) d P) word-classes
-
-pub ground-stored : (g n w : ℕ) (objects edges : List ℕ) → g ≤ n → groundIn g (set objects n w) edges ≡ groundIn g objects edges
-ground-stored g n w objects edges h = ground-kept g (set objects n w) objects edges (take-set-le g objects n w h)

@@ -9,14 +9,14 @@ use mathlib.Core.Path.{_≡_, refl, sym, ap, ap₂, subst, _∙_}
 use lib.Dec.{eqb}
 use lib.ListN.{length, getD, set, take, length-set}
 use lib.Seq.{take-suc, take-suc-set, take-all, getD-take, getD-set-same, getD-set-other, length-take-le}
-use Rattle.records.specs.Concept.{Direction}
+use Rattle.records.specs.Concept.{Direction, directionOf}
 use Rattle.chase.specs.Ground.{Ground}
 use Rattle.chase.specs.Forest.{Forest, bare, grow, size, kid, parent, push, hop, next}
 use Rattle.chase.proofs.TestLaws.{cond-elim}
 use Rattle.ground.specs.Objects.{attributeIn, forestIn, groundIn}
 use Rattle.forest.specs.declared.places.Here.{Here}
 use Rattle.forest.specs.Kept.{Kept}
-use Rattle.forest.specs.Places.{directionOf, maxPlaces, standing, Stands, Begins, Pushed, Hopped, Follows}
+use Rattle.forest.specs.Places.{maxPlaces, standing, Stands, Begins, Pushed, Hopped, Follows}
 use Rattle.forest.proofs.ObjectLaws.{size-laid, parent-made, parent-ground}
 
 -- an object comes to the end of the list, or none
@@ -66,20 +66,20 @@ kid-there G (grow T m R c) P d =
     cond-elim (λ v. v ≤ suc (size G T)) (eqb m d && eqb R P) (λ _. omega arith) (λ _. omega (arith, kid-there G T P d))
 
 module _ {g n : ℕ} {objects : List ℕ} (kept : Kept g n objects) (P d r : ℕ) (h : d < n) where
-  pub hopped-ahead : (ahead : Bool) → ahead ≡ true → ((edges : List ℕ) → r ≡ kid (groundIn g objects edges) (forestIn g n objects) P d)
-      → Hopped g n objects ahead P d r
-  hopped-ahead true q k =
+  pub hopped-ahead : (back : Bool) → back ≡ false → ((edges : List ℕ) → r ≡ kid (groundIn g objects edges) (forestIn g n objects) P d)
+      → Hopped g n objects back P d r
+  hopped-ahead false q k =
       record {
         value = k;
         inside = omega (arith, k [], kid-there (groundIn g objects []) (forestIn g n objects) P d, size-laid g n objects (kept .laid) objects []);
       }
-  hopped-ahead false q k = absurd (false≢true q)
+  hopped-ahead true q k = absurd (false≢true (sym q))
 
-  pub hopped-back : (ahead : Bool) → ahead ≡ false
+  pub hopped-back : (back : Bool) → back ≡ true
       → ((edges : List ℕ) → r ≡ parent (groundIn g objects edges) (forestIn g n objects) P d)
-      → Hopped g n objects ahead P d r
-  hopped-back true q k = absurd (false≢true (sym q))
-  hopped-back false q k =
+      → Hopped g n objects back P d r
+  hopped-back false q k = absurd (false≢true q)
+  hopped-back true q k =
       record {
         value = k;
         inside =
@@ -108,16 +108,16 @@ module _ (G : Ground) (T : Forest) (r : Direction) (P : ℕ) where
   next-more s l i h =
       ap (λ (m : List ℕ). next G T r P (s ∷ m)) (take-suc l i 0 h) ∙ next-append (s ∷ take i l) (getD l i 0 ∷ [])
 
-module _ (g : ℕ) (objects : List ℕ) (ahead : Bool) (P s : ℕ) where
+module _ (g : ℕ) (objects : List ℕ) (back : Bool) (P s : ℕ) where
   -- after the first i of the list
   pub record After (n : ℕ) (l : List ℕ) (i : ℕ) (r : Here) : Type 0 where
     pub list : (edges : List ℕ)
-        → standing r ≡ next (groundIn g objects edges) (forestIn g n objects) (directionOf ahead) P (s ∷ take i l)
+        → standing r ≡ next (groundIn g objects edges) (forestIn g n objects) (directionOf back) P (s ∷ take i l)
     pub stands : Stands r
     pub size : r .size ≡ n
     pub more : r .count ≤ i + 1
 
-  pub after-none : {n k : ℕ} {b r : Here} (l : List ℕ) → Begins n b → Hopped g n objects ahead P s k → Pushed b k r → After n l 0 r
+  pub after-none : {n k : ℕ} {b r : Here} (l : List ℕ) → Begins n b → Hopped g n objects back P s k → Pushed b k r → After n l 0 r
   after-none {n} {k} {b} {r} l begins hopped pushed =
       record {
         list = λ edges.
@@ -128,7 +128,7 @@ module _ (g : ℕ) (objects : List ℕ) (ahead : Bool) (P s : ℕ) where
       }
 
   pub after-more : {h b r : Here} {k d : ℕ} (i : ℕ) → Stands h → i < h .count → d ≡ getD (h .at) i 0
-      → After (h .size) (standing h) i b → Hopped g (h .size) objects ahead P d k → Pushed b k r
+      → After (h .size) (standing h) i b → Hopped g (h .size) objects back P d k → Pushed b k r
       → After (h .size) (standing h) (i + 1) r
   after-more {h} {b} {r} {k} {d} i stands l e after hopped pushed =
       let long : length (standing h) ≡ h .count
@@ -138,21 +138,21 @@ module _ (g : ℕ) (objects : List ℕ) (ahead : Bool) (P s : ℕ) where
             let G = groundIn g objects edges in
             let T = forestIn g (h .size) objects in
             pushed .list ∙ ap₂ (λ (m : List ℕ) (j : ℕ). m ++ push j []) (after .list edges) (hopped .value edges)
-            ∙ ap (λ (j : ℕ). next G T (directionOf ahead) P (s ∷ take i (standing h)) ++ push (hop G T (directionOf ahead) P j) [])
+            ∙ ap (λ (j : ℕ). next G T (directionOf back) P (s ∷ take i (standing h)) ++ push (hop G T (directionOf back) P j) [])
             (e ∙ sym (getD-take (h .count) (h .at) i 0 l))
-            ∙ rw add-one (sym (next-more G T (directionOf ahead) P s (standing h) i (omega (arith, long))));
+            ∙ rw add-one (sym (next-more G T (directionOf back) P s (standing h) i (omega (arith, long))));
         stands = pushed .stands;
         size = pushed .size ∙ after .size;
         more = omega (arith, pushed .more, after .more);
       }
 
   pub after-all : {h r : Here} (i : ℕ) → Stands h → i ≤ h .count → h .count ≤ i
-      → After (h .size) (standing h) i r → Follows g objects ahead P s h r
+      → After (h .size) (standing h) i r → Follows g objects back P s h r
   after-all {h} {r} i stands a b after =
       record {
         list = λ edges.
             after .list edges
-            ∙ ap (λ (m : List ℕ). next (groundIn g objects edges) (forestIn g (h .size) objects) (directionOf ahead) P (s ∷ m))
+            ∙ ap (λ (m : List ℕ). next (groundIn g objects edges) (forestIn g (h .size) objects) (directionOf back) P (s ∷ m))
             (take-all i (standing h)
             (omega (arith, length-take-le (h .count) (h .at) (omega (arith, stands .few, stands .room)))));
         stands = after .stands;

@@ -21,7 +21,8 @@ use Rattle.chase.specs.Axioms.{collect, needsBy, needs}
 use Rattle.chase.specs.Forest.{Forest, kid, parent, asks, classesOf, lacks}
 use Rattle.chase.proofs.LoopLaws.{any-next}
 use Rattle.chase.proofs.TestLaws.{or-left, or-right, and-both, and-parts}
-use Rattle.classes.proofs.SchemaLaws.{classes-few}
+use Rattle.records.proofs.AcceptedLaws.{passes-1}
+use Rattle.chase.proofs.AcceptanceLaws.{accepted-signature}
 use Rattle.primary.specs.Words.{edgeOf}
 use Rattle.ground.specs.Objects.{link, linkPart, classesIn, attributeIn, makerIn, forestIn, groundIn, Laid}
 use Rattle.forest.proofs.ObjectLaws.{forest-none, forest-more, size-laid, parent-made, parent-ground, classes-laid}
@@ -119,7 +120,8 @@ module _ (l : List ℕ) (P d : ℕ) where
 -- the mask of all classes, shifted in a word of 32 bits
 module _ (w : List ℕ) (ok : AcceptedSchema w) (k : ℕ) (q : k ≡ schemaOf w .signature .classes) where
   pub few-classes : k ≤ maxClasses
-  few-classes = omega (arith, classes-few w ok)
+  unfolding schemaOf
+  few-classes = omega (arith, accepted-signature w (passes-1 w ok))
 
   shifted : (1 * 2 ^ k) % 2 ^ 32 ≡ 2 ^ k
   shifted = shl-exact 1 k 32 (omega arith) (omega (arith, few-classes)) ∙ one-mul (2 ^ k)

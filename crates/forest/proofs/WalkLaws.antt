@@ -9,12 +9,14 @@ use lib.ListN.{length}
 use types.Run.{OneOf}
 use denote.Enum.Declared.{tagOf}
 use Rattle.records.proofs.concept.Token.{the-type}
-use Rattle.records.specs.declared.concept.Token.the-variants.{Both, Reached, Common}
-use Rattle.records.specs.Concept.{Concept, class, everything, constant, both, reached, common, Path, empty, step}
+use Rattle.records.specs.declared.concept.Token.the-variants.{Both, Empty, Reached, Common}
+use Rattle.records.specs.Concept.{forward, backward, directionOf, Concept, class, everything, constant, both, reached, common, Path, empty, step}
 use Rattle.records.specs.Layout.{viewSteps, maxAttributes, maxObjects}
 use Rattle.records.specs.Schema.{Schema}
 use Rattle.records.specs.SchemaRecord.{schemaOf}
 use Rattle.records.specs.ConceptRecord.{tokenAt}
+use Rattle.records.specs.Pile.{stepToken}
+use Rattle.records.proofs.PileLaws.{left-of-path, only-empty, path-token}
 use Rattle.chase.specs.Ground.{Ground}
 use Rattle.chase.specs.Steps.{conceptSteps, pathSteps}
 use Rattle.chase.specs.Forest.{Forest, size, walk, trek, makeFor, next}
@@ -22,15 +24,17 @@ use Rattle.chase.specs.Tokens.{startOf, conceptAt, pathAt}
 use Rattle.chase.proofs.PileLaws.{start-le}
 use Rattle.chase.proofs.SizeLaws.{trek-size}
 use Rattle.chase.proofs.TokenLaws.{Reads, ReadsStep, concept-reads, path-reads}
+use Rattle.chase.proofs.ReadingLaws.{trek-of}
+use Rattle.tokens.proofs.EndLaws.{concept-some, path-some, path-pile}
 use Rattle.ground.specs.Objects.{forestIn, groundIn}
 use Rattle.forest.specs.declared.places.Here.{Here}
 use Rattle.forest.specs.Kept.{Kept, Grows}
-use Rattle.forest.specs.Places.{directionOf, maxPlaces, standing, Stands, Follows, madeFor}
+use Rattle.forest.specs.Places.{maxPlaces, standing, Stands, Follows, madeFor}
 use Rattle.forest.specs.Making.{CanMakeFor}
-use Rattle.forest.specs.Walking.{stepToken, Walking, walked, trekked, CanWalk, CanTrek, Walked, Trekked}
+use Rattle.forest.specs.Walking.{Walking, walked, trekked, CanWalk, CanTrek, Walked, Trekked}
 use Rattle.forest.proofs.ObjectLaws.{ground-kept}
 use Rattle.forest.proofs.GrowLaws.{grows-then, grows-self, makeFor-more, listed}
-use Rattle.forest.proofs.ViewLaws.{concept-after, path-after, view-short, step-attribute, left-of-concept, left-of-path, leaf-walk, leaf-trek}
+use Rattle.forest.proofs.ViewLaws.{view-short, step-attribute, left-of-concept, leaf-walk}
 
 -- nothing is taken back
 module _ (S : Schema) (G : Ground) where
@@ -200,13 +204,13 @@ module _ {schema view edges objects : List ℕ} {g s at : ℕ} {h : Here} (can :
 
 -- A step: the path before it, the values that it asks for, the list after it, and the concept on which it lands.
 module _ {schema view edges objects : List ℕ} {g s at : ℕ} {h : Here} (can : CanTrek schema view edges objects g s (suc at) h)
-    (P : ℕ) (ahead : Bool) (is : tokenAt view at ≡ stepToken ahead P) where
-  reads-step : ReadsStep view at (directionOf ahead) P
-  reads-step = go ahead is
+    (P : ℕ) (back : Bool) (is : tokenAt view at ≡ stepToken (directionOf back) P) where
+  reads-step : ReadsStep view at (directionOf back) P
+  reads-step = go back is
     where
-      go : (b : Bool) → tokenAt view at ≡ stepToken b P → ReadsStep view at (directionOf b) P
-      go true q = path-reads view at (stepToken true P) (can .item) q
-      go false q = path-reads view at (stepToken false P) (can .item) q
+      go : (b : Bool) → tokenAt view at ≡ stepToken (directionOf b) P → ReadsStep view at (directionOf b) P
+      go true q = path-reads view at (stepToken backward P) (can .item) q
+      go false q = path-reads view at (stepToken forward P) (can .item) q
 
   abbrev first : Path
   first = pathAt view (startOf view at 1)
@@ -217,12 +221,12 @@ module _ {schema view edges objects : List ℕ} {g s at : ℕ} {h : Here} (can :
   -- the model's forest with the values made, and its list after the step
   abbrev valued : Forest
   valued =
-      makeFor (schemaOf schema) (groundIn g objects edges) (directionOf ahead) P
+      makeFor (schemaOf schema) (groundIn g objects edges) (directionOf back) P
       (s ∷ trekked schema edges objects g s h first .1)
       (trekked schema edges objects g s h first .0)
 
   abbrev landed : List ℕ
-  landed = next (groundIn g objects edges) valued (directionOf ahead) P (s ∷ trekked schema edges objects g s h first .1)
+  landed = next (groundIn g objects edges) valued (directionOf back) P (s ∷ trekked schema edges objects g s h first .1)
 
   step-is : trekked schema edges objects g s h (pathAt view (suc at))
       ≡ (walk (schemaOf schema) (groundIn g objects edges) landing s landed valued, landed)
@@ -246,7 +250,7 @@ module _ {schema view edges objects : List ℕ} {g s at : ℕ} {h : Here} (can :
             omega (
               arith,
               fits-valued,
-              makeFor-more (schemaOf schema) (groundIn g objects edges) (directionOf ahead) P
+              makeFor-more (schemaOf schema) (groundIn g objects edges) (directionOf back) P
                   (s ∷ trekked schema edges objects g s h first .1)
                   (trekked schema edges objects g s h first .0),
             );
@@ -254,7 +258,7 @@ module _ {schema view edges objects : List ℕ} {g s at : ℕ} {h : Here} (can :
       }
 
   attribute : P < maxAttributes
-  attribute = step-attribute schema view (can .walking .sound) (can .walking .legal) at P ahead (omega (arith, can .walking .within)) is
+  attribute = step-attribute schema view (can .walking .sound) (can .walking .legal) at P back (omega (arith, can .walking .within)) is
 
   -- after the path
   module _ {q : Here} {a : List ℕ} (x : Trekked schema view edges objects g s (startOf view at 1) h a q) where
@@ -270,7 +274,7 @@ module _ {schema view edges objects : List ℕ} {g s at : ℕ} {h : Here} (can :
               (omega (arith, listed (can .walking .stands))) .1,
         )
 
-    pub step-make : CanMakeFor schema edges a g ahead P s q
+    pub step-make : CanMakeFor schema edges a g back P s q
     step-make =
         record {
           legal = can .walking .legal;
@@ -282,23 +286,23 @@ module _ {schema view edges objects : List ℕ} {g s at : ℕ} {h : Here} (can :
               omega (
                 arith,
                 fits-valued,
-                same-size edges (λ H U. makeFor (schemaOf schema) H (directionOf ahead) P (s ∷ standing q) U) (x .grows),
+                same-size edges (λ H U. makeFor (schemaOf schema) H (directionOf back) P (s ∷ standing q) U) (x .grows),
                 ap
                     (λ (l : List ℕ). size (groundIn g objects edges)
-                    (makeFor (schemaOf schema) (groundIn g objects edges) (directionOf ahead) P (s ∷ l)
+                    (makeFor (schemaOf schema) (groundIn g objects edges) (directionOf back) P (s ∷ l)
                     (trekked schema edges objects g s h first .0))) (x .list),
               );
         }
 
     -- after the values were made
-    module _ {n : ℕ} {b : List ℕ} (made : Grows g (q .size) n a b (madeFor schema edges a g ahead P s q)) where
+    module _ {n : ℕ} {b : List ℕ} (made : Grows g (q .size) n a b (madeFor schema edges a g back P s q)) where
       sofar : Grows g (h .size) n objects b valued
       sofar =
           subst
           (λ (l : List ℕ). Grows g (h .size) n objects b
-          (makeFor (schemaOf schema) (groundIn g objects edges) (directionOf ahead) P (s ∷ l)
+          (makeFor (schemaOf schema) (groundIn g objects edges) (directionOf back) P (s ∷ l)
           (trekked schema edges objects g s h first .0))) (x .list)
-          (grows-then edges (λ H U. makeFor (schemaOf schema) H (directionOf ahead) P (s ∷ standing q) U) (x .grows) made)
+          (grows-then edges (λ H U. makeFor (schemaOf schema) H (directionOf back) P (s ∷ standing q) U) (x .grows) made)
 
       pub step-next : Kept g n b × (P < maxAttributes) × (s < n) × Stands (grown q n) × (q .count < maxPlaces)
       step-next = (
@@ -310,13 +314,13 @@ module _ {schema view edges objects : List ℕ} {g s at : ℕ} {h : Here} (can :
       )
 
       -- after the list was made
-      module _ {w : Here} (f : Follows g b ahead P s (grown q n) w) where
+      module _ {w : Here} (f : Follows g b back P s (grown q n) w) where
         list-is : standing w ≡ landed
         list-is =
             f .list edges
-            ∙ ap₂ (λ (H : Ground) (U : Forest). next H U (directionOf ahead) P (s ∷ standing q))
+            ∙ ap₂ (λ (H : Ground) (U : Forest). next H U (directionOf back) P (s ∷ standing q))
             (ground-kept g b objects edges (sofar .ground)) (sofar .value)
-            ∙ ap (λ (l : List ℕ). next (groundIn g objects edges) valued (directionOf ahead) P (s ∷ l)) (x .list)
+            ∙ ap (λ (l : List ℕ). next (groundIn g objects edges) valued (directionOf back) P (s ∷ l)) (x .list)
 
         landing-is : walked schema edges b g s w landing
             ≡ walk (schemaOf schema) (groundIn g b edges) landing s landed (forestIn g n b)
@@ -355,7 +359,7 @@ module _ {schema view edges objects : List ℕ} {g s at : ℕ} {h : Here} (can :
 module _ {schema view edges objects : List ℕ} {g s e : ℕ} {h : Here} where
   module _ (can : CanWalk schema view edges objects g s e h) where
     pub walk-after : e ≡ suc (e - 1)
-    walk-after = concept-after view e (can .item)
+    walk-after = omega (arith, concept-some view e (can .item))
 
     pub walk-short : e < 2 ^ 16
     walk-short = view-short schema view (can .walking .sound) e (can .walking .within)
@@ -377,7 +381,7 @@ module _ {schema view edges objects : List ℕ} {g s e : ℕ} {h : Here} where
 
   module _ (can : CanTrek schema view edges objects g s e h) where
     pub trek-after : e ≡ suc (e - 1)
-    trek-after = path-after view e (can .item)
+    trek-after = omega (arith, path-some view e (can .item))
 
     pub trek-short : e < 2 ^ 16
     trek-short = view-short schema view (can .walking .sound) e (can .walking .within)
@@ -391,9 +395,10 @@ module _ {schema view edges objects : List ℕ} {g s e : ℕ} {h : Here} where
 
     pub trek-leaf : OneOf left-of-path (tagOf the-type (tokenAt view (e - 1))) → Trekked schema view edges objects g s e h objects h
     trek-leaf k =
+        let is = only-empty (tokenAt view (e - 1)) k (path-token view (e - 1) e trek-after (path-pile view e (can .item))) in
         let q
-        = leaf-trek (schemaOf schema) (groundIn g objects edges) view (e - 1) s (standing h) (forestIn g (h .size) objects)
-        (tokenAt view (e - 1)) k (path-reads view (e - 1) (tokenAt view (e - 1)) (trek-from .item) refl) in
+        = trek-of (schemaOf schema) (groundIn g objects edges) view (suc (e - 1)) s (standing h) (forestIn g (h .size) objects) empty
+        (path-reads view (e - 1) Empty (trek-from .item) is .0) in
         trek-to
         (record {
           grows = grows-self (can .walking .kept) (sym (ap (λ (x : Forest × List ℕ). x .0) q));

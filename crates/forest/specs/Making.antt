@@ -38,10 +38,10 @@ pub record CanMakeAll (schema edges objects : List ℕ) (g n mask P : ℕ) (l : 
   pub inside : (i : ℕ) → i < length l → getD l i 0 < n
   pub fits : size (groundIn g objects edges) (madeAll schema edges objects g n P l) ≤ maxObjects
 
-pub record CanMakeFor (schema edges objects : List ℕ) (g : ℕ) (ahead : Bool) (P s : ℕ) (h : Here) : Type 0 where
+pub record CanMakeFor (schema edges objects : List ℕ) (g : ℕ) (back : Bool) (P s : ℕ) (h : Here) : Type 0 where
   pub legal : AcceptedSchema schema
   pub kept : Kept g (h .size) objects
   pub attribute : P < maxAttributes
   pub start : s < h .size
   pub stands : Stands h
-  pub fits : size (groundIn g objects edges) (madeFor schema edges objects g ahead P s h) ≤ maxObjects
+  pub fits : size (groundIn g objects edges) (madeFor schema edges objects g back P s h) ≤ maxObjects

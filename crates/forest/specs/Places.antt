@@ -1,19 +1,15 @@
 -- Where the walk stands (src/places.rt): the made objects at the present place of the view, and what a step makes of them.
 use Prim.Native.Nat.{ℕ, _+_, _≤_, _<_}
-use mathlib.Core.Bool.{Bool, true, false}
+use mathlib.Core.Bool.{Bool}
 use mathlib.Core.List.{List, [], _∷_, _++_}
 use mathlib.Core.Path.{_≡_}
 use lib.ListN.{length, getD, take}
-use Rattle.records.specs.Concept.{Direction, forward, backward}
+use Rattle.records.specs.Concept.{directionOf}
 use Rattle.records.specs.Layout.{viewSteps}
 use Rattle.records.specs.SchemaRecord.{schemaOf}
 use Rattle.chase.specs.Forest.{Forest, push, hop, next, makeFor}
 use Rattle.ground.specs.Objects.{forestIn, groundIn}
 use Rattle.forest.specs.declared.places.Here.{Here}
-
-abbrev pub directionOf : Bool → Direction
-directionOf true = forward
-directionOf false = backward
 
 abbrev pub maxPlaces : ℕ
 maxPlaces = viewSteps
@@ -43,19 +39,19 @@ pub record Pushed (h : Here) (k : ℕ) (r : Here) : Type 0 where
   pub more : r .count ≤ h .count + 1
 
 -- r is where the step leads from d, if anywhere
-pub record Hopped (g n : ℕ) (objects : List ℕ) (ahead : Bool) (P d r : ℕ) : Type 0 where
-  pub value : (edges : List ℕ) → r ≡ hop (groundIn g objects edges) (forestIn g n objects) (directionOf ahead) P d
+pub record Hopped (g n : ℕ) (objects : List ℕ) (back : Bool) (P d r : ℕ) : Type 0 where
+  pub value : (edges : List ℕ) → r ≡ hop (groundIn g objects edges) (forestIn g n objects) (directionOf back) P d
   pub inside : r ≤ n
 
 -- r has the list after the step
-pub record Follows (g : ℕ) (objects : List ℕ) (ahead : Bool) (P s : ℕ) (h r : Here) : Type 0 where
+pub record Follows (g : ℕ) (objects : List ℕ) (back : Bool) (P s : ℕ) (h r : Here) : Type 0 where
   pub list : (edges : List ℕ)
-      → standing r ≡ next (groundIn g objects edges) (forestIn g (h .size) objects) (directionOf ahead) P (s ∷ standing h)
+      → standing r ≡ next (groundIn g objects edges) (forestIn g (h .size) objects) (directionOf back) P (s ∷ standing h)
   pub stands : Stands r
   pub size : r .size ≡ h .size
   pub more : r .count ≤ h .count + 1
 
 -- the values that s and those on the list lack before a step
 abbrev pub madeFor : List ℕ → List ℕ → List ℕ → ℕ → Bool → ℕ → ℕ → Here → Forest
-madeFor schema edges objects g ahead P s h =
-    makeFor (schemaOf schema) (groundIn g objects edges) (directionOf ahead) P (s ∷ standing h) (forestIn g (h .size) objects)
+madeFor schema edges objects g back P s h =
+    makeFor (schemaOf schema) (groundIn g objects edges) (directionOf back) P (s ∷ standing h) (forestIn g (h .size) objects)

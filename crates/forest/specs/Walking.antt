@@ -1,11 +1,8 @@
 -- What the walk of the view asks and promises: of the concept, or of the path, that ends at token e.
 use Prim.Native.Nat.{ℕ, _+_, _*_, _≤_, _<_}
-use mathlib.Core.Bool.{Bool, true, false}
 use mathlib.Core.List.{List}
 use mathlib.Core.Path.{_≡_}
 use lib.ListN.{take}
-use Rattle.records.specs.declared.concept.Token.{Token}
-use Rattle.records.specs.declared.concept.Token.the-variants.{Forward, Backward}
 use Rattle.records.specs.Concept.{Concept, Path}
 use Rattle.records.specs.Layout.{conceptLayout, entries, viewSteps, maxObjects}
 use Rattle.records.specs.SchemaRecord.{signatureOf, schemaOf}
@@ -19,11 +16,6 @@ use Rattle.ground.specs.Objects.{forestIn, groundIn}
 use Rattle.forest.specs.declared.places.Here.{Here}
 use Rattle.forest.specs.Kept.{Kept, Grows}
 use Rattle.forest.specs.Places.{standing, Stands}
-
--- the token of a step, ahead or back
-abbrev pub stepToken : Bool → ℕ → Token
-stepToken true P = Forward P
-stepToken false P = Backward P
 
 -- the records, the objects and the list are in order, and e is a place of the view
 pub record Walking (schema view objects : List ℕ) (g s e : ℕ) (h : Here) : Type 0 where

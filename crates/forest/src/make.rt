@@ -70,15 +70,15 @@ pub fn make_for(
     edges: &[u16],
     g: usize,
     attribute: usize,
-    forward: bool,
+    backward: bool,
     s: usize,
     here: Here,
     objects: &mut [u64; OBJECTS],
 ) -> usize
-    requires { ⌜ CanMakeFor (now schema) (now edges) (now objects) g forward attribute s here ⌝ }
-    ensures { λ r. ⌜ Grows g (here .size) r (now (objects .entry)) (now (objects .exit)) (madeFor (now (schema .entry)) (now (edges .entry)) (now (objects .entry)) g forward attribute s here) ⌝ }
+    requires { ⌜ CanMakeFor (now schema) (now edges) (now objects) g backward attribute s here ⌝ }
+    ensures { λ r. ⌜ Grows g (here .size) r (now (objects .entry)) (now (objects .exit)) (madeFor (now (schema .entry)) (now (edges .entry)) (now (objects .entry)) g backward attribute s here) ⌝ }
 {
-    if !forward {
+    if backward {
         return here.size;
     }
     let mask = needs_mask(schema, attribute);

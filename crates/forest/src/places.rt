@@ -6,7 +6,6 @@ use records::concept::View;
 use records::layout::narrow;
 use records::layout::wide;
 ghost use Prim.Native.Nat.{_≤_, _<_, _^_};
-ghost use mathlib.Core.Path.{_≡_};
 ghost use Rattle.records.specs.Layout.{maxAttributes};
 ghost use Rattle.forest.specs.Kept.{Kept};
 ghost use Rattle.forest.specs.Places.{maxPlaces, Stands, Begins, Hopped, Pushed, Follows};
@@ -53,16 +52,16 @@ fn hop(
     g: usize,
     n: usize,
     attribute: usize,
-    forward: bool,
+    backward: bool,
     d: usize,
 ) -> usize
     requires { ⌜ Kept g n (now objects) × (attribute < maxAttributes) × (d < n) ⌝ }
-    ensures { λ r. ⌜ Hopped g n (now (objects .entry)) forward attribute d r ⌝ }
+    ensures { λ r. ⌜ Hopped g n (now (objects .entry)) backward attribute d r ⌝ }
 {
-    if forward {
-        return kid(objects, g, n, attribute, d);
+    if backward {
+        return parent(objects, g, n, attribute, d);
     }
-    parent(objects, g, n, attribute, d)
+    kid(objects, g, n, attribute, d)
 }
 
 // The made objects after a step from s and from those on the list.
@@ -70,20 +69,20 @@ pub fn next(
     objects: &[u64; OBJECTS],
     g: usize,
     attribute: usize,
-    forward: bool,
+    backward: bool,
     s: usize,
     here: Here,
 ) -> Here
     requires { ⌜ Kept g (here .size) (now objects) × (attribute < maxAttributes) × (s < here .size) × Stands here × (here .count < maxPlaces) ⌝ }
-    ensures { λ r. ⌜ Follows g (now (objects .entry)) forward attribute s here r ⌝ }
+    ensures { λ r. ⌜ Follows g (now (objects .entry)) backward attribute s here r ⌝ }
 {
     let at = here.at;
     let n = here.size;
     let none = begin(n);
-    let mut after = none.push(hop(objects, g, n, attribute, forward, s));
+    let mut after = none.push(hop(objects, g, n, attribute, backward, s));
     let count = here.count;
     for i in 0..count {
-        let more = after.push(hop(objects, g, n, attribute, forward, wide(at[i])));
+        let more = after.push(hop(objects, g, n, attribute, backward, wide(at[i])));
         after = more;
     }
     after

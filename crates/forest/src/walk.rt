@@ -14,11 +14,13 @@ ghost use mathlib.Core.Path.{_≡_};
 ghost use Rattle.records.specs.declared.concept.Token.the-variants.{Both, Common};
 ghost use Rattle.records.specs.Layout.{viewSteps};
 ghost use Rattle.records.specs.SchemaRecord.{signatureOf};
+ghost use Rattle.records.specs.Concept.{directionOf};
 ghost use Rattle.records.specs.ConceptRecord.{tokenAt};
+ghost use Rattle.records.specs.Pile.{stepToken};
 ghost use Rattle.records.specs.Refusal.{AcceptedSchema, AcceptedConcept};
 ghost use Rattle.primary.specs.Formed.{maxNodes};
 ghost use Rattle.forest.specs.Kept.{Kept};
-ghost use Rattle.forest.specs.Walking.{CanWalk, CanTrek, Walked, Trekked, stepToken, Walks};
+ghost use Rattle.forest.specs.Walking.{CanWalk, CanTrek, Walked, Trekked, Walks};
 
 // The concept that ends at `end`. Returns how many objects there are then.
 fn walk(
@@ -104,8 +106,8 @@ fn trek(
 {
     let at = end - 1;
     match token_at(view, at) {
-        Token::Forward(p) => step(schema, view, edges, g, s, at, p, true, here, objects),
-        Token::Backward(p) => step(schema, view, edges, g, s, at, p, false, here, objects),
+        Token::Forward(p) => step(schema, view, edges, g, s, at, p, false, here, objects),
+        Token::Backward(p) => step(schema, view, edges, g, s, at, p, true, here, objects),
         // The empty path.
         _ => here,
     }
@@ -120,17 +122,17 @@ fn step(
     s: usize,
     at: usize,
     attribute: usize,
-    forward: bool,
+    backward: bool,
     here: Here,
     objects: &mut [u64; OBJECTS],
 ) -> Here
-    requires { ⌜ CanTrek (now schema) (now view) (now edges) (now objects) g s (suc at) here × (tokenAt (now view) at ≡ stepToken forward attribute) ⌝ }
+    requires { ⌜ CanTrek (now schema) (now view) (now edges) (now objects) g s (suc at) here × (tokenAt (now view) at ≡ stepToken (directionOf backward) attribute) ⌝ }
     ensures { λ r. ⌜ Trekked (now (schema .entry)) (now (view .entry)) (now (edges .entry)) (now (objects .entry)) g s (suc at) here (now (objects .exit)) r ⌝ }
 {
     let mut there = trek(schema, view, edges, g, s, start_of(view, at), here, objects);
-    let made = make_for(schema, edges, g, attribute, forward, s, there, objects);
+    let made = make_for(schema, edges, g, attribute, backward, s, there, objects);
     there.size = made;
-    let mut after = next(objects, g, attribute, forward, s, there);
+    let mut after = next(objects, g, attribute, backward, s, there);
     let n = walk(schema, view, edges, g, s, at, after, objects);
     after.size = n;
     after

@@ -14,7 +14,7 @@ use Rattle.records.specs.declared.concept.Token.the-variants.{Class, Eve
 use Rattle.records.specs.Concept.{Direction, forward, backward, Concept, class, everything, constant, both, reached, common, Path, empty, step}
 use Rattle.records.specs.ConceptRecord.{tokenAt, Item, Pile, takeConcept, takePath, push, after, pileAfter, topConcept}
 use Rattle.records.specs.Refusal.{isConcept}
-use Rattle.records.specs.Pile.{topPath, below, HasConcept, HasPath}
+use Rattle.records.specs.Pile.{stepToken, topPath, below, HasConcept, HasPath}
 
 -- What the pile p was before a token made it q, by what the token takes.
 
@@ -54,11 +54,6 @@ pub record TakesCommon (p q : Pile) : Type 0 where
   pub first : HasPath (below p)
   pub top : topConcept q ≡ common (topPath (below p)) (topPath p)
   pub rest : below q ≡ below (below p)
-
--- the token of a step
-abbrev pub stepToken : Direction → ℕ → Token
-stepToken forward P = Forward P
-stepToken backward P = Backward P
 
 abbrev isPath : Item → Bool
 isPath (Item.concept C) = false

@@ -8,7 +8,8 @@ use Rattle.records.proofs.FiniteLaws.{any-zero, any-still}
 use Rattle.records.specs.Finite.{any}
 use Rattle.records.specs.SchemaRecord.{schemaOf}
 use Rattle.records.specs.declared.schema.Signature.{Signature}
-use Rattle.candidate.proofs.BoundLaws.{attributes-few}
+use Rattle.records.proofs.AcceptedLaws.{passes-1}
+use Rattle.chase.proofs.AcceptanceLaws.{accepted-signature}
 use Rattle.candidate.proofs.SearchLaws.{lacking-found, lacking-none}
 use Rattle.candidate.specs.Facts.{lacksOne}
 use Rattle.ground.specs.Objects.{groundIn, forestIn}
@@ -35,7 +36,8 @@ needs-mask-requires : tie.Need-needs-mask-requires Inv-loop μ-loop
 needs-mask-requires c κs = c .before .before .before .before .before .pre .0
 
 lacks-one-requires : tie.Need-lacks-one-requires Inv-loop μ-loop
-lacks-one-requires c κs = (c .before .before .before .before .before .before .pre .1, omega (arith, c .before .before .loop .inv .1, attributes-few _ (c .before .before .before .before .before .before .pre .0)))
+unfolding schemaOf
+lacks-one-requires c κs = (c .before .before .before .before .before .before .pre .1, omega (arith, c .before .before .loop .inv .1, accepted-signature (c .before .before .before .before .before .before .args .schema .now) (passes-1 (c .before .before .before .before .before .before .args .schema .now) (c .before .before .before .before .before .before .pre .0))))
 
 returns : tie.Need-returns Inv-loop μ-loop
 returns c = lacking-found (schemaOf (c .before .before .before .before .before .before .before .before .args .schema .now)) (groundIn (c .before .before .before .before .before .before .before .before .args .g) (c .before .before .before .before .before .before .before .before .args .objects .now) (c .before .before .before .before .before .before .before .before .args .edges .now)) (forestIn (c .before .before .before .before .before .before .before .before .args .g) (c .before .before .before .before .before .before .before .before .args .n) (c .before .before .before .before .before .before .before .before .args .objects .now)) _ (omega (arith, c .before .before .before .before .loop .inv .1)) (sym (c .before .lacks-one .ensures _ (c .before .before .needs-mask .ensures)) ∙ c .if1 .taken)

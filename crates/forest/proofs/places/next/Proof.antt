@@ -8,11 +8,11 @@ use Rattle.forest.proofs.places.next.Statement.{statement}
 use Rattle.forest.proofs.places.next.Tie as tie
 
 abbrev Inv-loop : tie.InvT-loop
-Inv-loop objects g attribute forward s at n after₀ count i₀ after i =
-    (i ≤ count) × After g objects forward attribute s n (take count at) i after
+Inv-loop objects g attribute backward s at n after₀ count i₀ after i =
+    (i ≤ count) × After g objects backward attribute s n (take count at) i after
 
 abbrev μ-loop : tie.MeasureT-loop
-μ-loop objects g attribute forward s at n after₀ count i₀ after i = count - i
+μ-loop objects g attribute backward s at n after₀ count i₀ after i = count - i
 
 begin-requires : tie.Need-begin-requires Inv-loop μ-loop
 begin-requires c κs = tt

@@ -119,19 +119,19 @@ step-start-of-requires : (t : ℕ) → step-lts.Need-start-of-requires (step-cal
 step-start-of-requires t c κs = omega (arith, trek-short (c .before .before .before .pre .1 .0))
 
 step-trek-requires : (t : ℕ) → step-lts.Need-trek-requires (step-calls t) (step-at t) step.Post
-step-trek-requires t c κs = (omega (arith, c .before .before .before .before .before .pre .0, c .before .start-of .ensures, start-le (c .before .before .before .before .before .args .view .now) (c .before .before .before .before .before .args .at) 1), rw (c .before .start-of .ensures) (step-path (c .before .before .before .before .before .pre .1 .0) (c .before .before .before .before .before .args .attribute) (c .before .before .before .before .before .args .forward) (c .before .before .before .before .before .pre .1 .1)))
+step-trek-requires t c κs = (omega (arith, c .before .before .before .before .before .pre .0, c .before .start-of .ensures, start-le (c .before .before .before .before .before .args .view .now) (c .before .before .before .before .before .args .at) 1), rw (c .before .start-of .ensures) (step-path (c .before .before .before .before .before .pre .1 .0) (c .before .before .before .before .before .args .attribute) (c .before .before .before .before .before .args .backward) (c .before .before .before .before .before .pre .1 .1)))
 
 step-make-for-requires : (t : ℕ) → step-lts.Need-make-for-requires (step-calls t) (step-at t) step.Post
-step-make-for-requires t c κs = step-make (c .before .before .before .before .before .before .before .pre .1 .0) (c .before .before .before .before .before .before .before .args .attribute) (c .before .before .before .before .before .before .before .args .forward) (c .before .before .before .before .before .before .before .pre .1 .1) (rw (c .before .before .before .start-of .ensures) at (c .before .trek .ensures))
+step-make-for-requires t c κs = step-make (c .before .before .before .before .before .before .before .pre .1 .0) (c .before .before .before .before .before .before .before .args .attribute) (c .before .before .before .before .before .before .before .args .backward) (c .before .before .before .before .before .before .before .pre .1 .1) (rw (c .before .before .before .start-of .ensures) at (c .before .trek .ensures))
 
 step-next-requires : (t : ℕ) → step-lts.Need-next-requires (step-calls t) (step-at t) step.Post
-step-next-requires t c κs = step-next (c .before .before .before .before .before .before .before .before .before .pre .1 .0) (c .before .before .before .before .before .before .before .before .before .args .attribute) (c .before .before .before .before .before .before .before .before .before .args .forward) (c .before .before .before .before .before .before .before .before .before .pre .1 .1) (rw (c .before .before .before .before .before .start-of .ensures) at (c .before .before .before .trek .ensures)) (c .before .make-for .ensures)
+step-next-requires t c κs = step-next (c .before .before .before .before .before .before .before .before .before .pre .1 .0) (c .before .before .before .before .before .before .before .before .before .args .attribute) (c .before .before .before .before .before .before .before .before .before .args .backward) (c .before .before .before .before .before .before .before .before .before .pre .1 .1) (rw (c .before .before .before .before .before .start-of .ensures) at (c .before .before .before .trek .ensures)) (c .before .make-for .ensures)
 
 step-walk-requires : (t : ℕ) → step-lts.Need-walk-requires (step-calls t) (step-at t) step.Post
-step-walk-requires t c κs = (omega (arith, c .before .before .before .before .before .before .before .before .before .before .before .pre .0), step-walk (c .before .before .before .before .before .before .before .before .before .before .before .pre .1 .0) (c .before .before .before .before .before .before .before .before .before .before .before .args .attribute) (c .before .before .before .before .before .before .before .before .before .before .before .args .forward) (c .before .before .before .before .before .before .before .before .before .before .before .pre .1 .1) (rw (c .before .before .before .before .before .before .before .start-of .ensures) at (c .before .before .before .before .before .trek .ensures)) (c .before .before .before .make-for .ensures) (c .before .next .ensures))
+step-walk-requires t c κs = (omega (arith, c .before .before .before .before .before .before .before .before .before .before .before .pre .0), step-walk (c .before .before .before .before .before .before .before .before .before .before .before .pre .1 .0) (c .before .before .before .before .before .before .before .before .before .before .before .args .attribute) (c .before .before .before .before .before .before .before .before .before .before .before .args .backward) (c .before .before .before .before .before .before .before .before .before .before .before .pre .1 .1) (rw (c .before .before .before .before .before .before .before .start-of .ensures) at (c .before .before .before .before .before .trek .ensures)) (c .before .before .before .make-for .ensures) (c .before .next .ensures))
 
 step-returns : (t : ℕ) → step-lts.Need-returns (step-calls t) (step-at t) step.Post
-step-returns t c = step-trekked (c .before .before .before .before .before .before .before .before .before .before .before .before .pre .1 .0) (c .before .before .before .before .before .before .before .before .before .before .before .before .args .attribute) (c .before .before .before .before .before .before .before .before .before .before .before .before .args .forward) (c .before .before .before .before .before .before .before .before .before .before .before .before .pre .1 .1) (rw (c .before .before .before .before .before .before .before .before .start-of .ensures) at (c .before .before .before .before .before .before .trek .ensures)) (c .before .before .before .before .make-for .ensures) (c .before .before .next .ensures) (c .walk .ensures)
+step-returns t c = step-trekked (c .before .before .before .before .before .before .before .before .before .before .before .before .pre .1 .0) (c .before .before .before .before .before .before .before .before .before .before .before .before .args .attribute) (c .before .before .before .before .before .before .before .before .before .before .before .before .args .backward) (c .before .before .before .before .before .before .before .before .before .before .before .before .pre .1 .1) (rw (c .before .before .before .before .before .before .before .before .start-of .ensures) at (c .before .before .before .before .before .before .trek .ensures)) (c .before .before .before .before .make-for .ensures) (c .before .before .next .ensures) (c .walk .ensures)
 
 trek-sub-at : (t : ℕ) → trek-lts.Need-sub-at (trek-calls t) (trek-at t) trek.Post
 trek-sub-at t c = omega (arith, trek-after (c .before .before .before .pre .1))
