@@ -16,13 +16,13 @@ use Rattle.chase.specs.Axioms.{collect, needsBy, needs}
 use Rattle.chase.specs.ClassSet.{meets}
 use Rattle.chase.specs.Facts.{Edge}
 use Rattle.chase.specs.Ground.{Ground, listing}
-use Rattle.chase.specs.Forest.{Forest, bare, grow, size, kid, push, asks, classesOf, lacks}
+use Rattle.chase.specs.Forest.{Forest, size, kid, push, asks, classesOf, lacks}
 use Rattle.chase.specs.Candidate.{links}
 use Rattle.chase.specs.Targets.{targets}
 use Rattle.chase.specs.Written.{fact, gather, pairFacts}
-use Rattle.chase.proofs.LoopLaws.{any-next}
+use Rattle.chase.proofs.LoopLaws.{any-next, any-map}
 use Rattle.chase.proofs.TestLaws.{cond-elim, cond-elim₂, or-false}
-use Rattle.chase.proofs.ForestLaws.{kid-lacks}
+use Rattle.chase.proofs.ForestLaws.{kid-lacks, kid-bound}
 use Rattle.primary.specs.Words.{edgeOf}
 use Rattle.ground.specs.Objects.{groundIn}
 use Rattle.candidate.specs.Writing.{Room, Wrote, factIf}
@@ -48,11 +48,6 @@ module _ (l : List ℕ) (P d e : ℕ) where
 
   pub linked-more : (i : ℕ) (b : Bool) → i < length l → b ≡ linkedBy i → (b || isLink (getD l i 0)) ≡ linkedBy (i + 1)
   linked-more i b h q = rw add-one (ap (λ (c : Bool). c || isLink (getD l i 0)) q ∙ sym (any-next isLink l i 0 h))
-
-  any-map : {A : Type 0} (test : A → Bool) (f : ℕ → A) (m : List ℕ) → anyOf test (map f m) ≡ anyOf (λ w. test (f w)) m
-  unfolding anyOf
-  any-map test f [] = refl
-  any-map test f (w ∷ m) = ap (λ (b : Bool). test (f w) || b) (any-map test f m)
 
   pub linked-all : (i : ℕ) (b : Bool) → length l ≤ i → b ≡ linkedBy i → (g : ℕ) (objects : List ℕ) → b ≡ links (groundIn g objects l) P d e
   unfolding links
@@ -161,12 +156,6 @@ module _ (S : Schema) (G : Ground) (T : Forest) (P d : ℕ) where
 
   pub value-lacks : kid G T P d ≡ 0 → So Need → asks G P d ≡ false → suc (size G T) ≡ valueAt S G T P d
   value-lacks k p q = value-else true true false k p q refl
-
-kid-bound : (G : Ground) (T : Forest) (P d : ℕ) → kid G T P d ≤ size G T
-unfolding kid size
-kid-bound G bare P d = omega arith
-kid-bound G (grow T m R c) P d =
-    cond-elim (λ v. v ≤ suc (size G T)) (eqb m d && eqb R P) (λ _. omega arith) (λ _. omega (arith, kid-bound G T P d))
 
 pub value-bound : (S : Schema) (G : Ground) (T : Forest) (P d : ℕ) → valueAt S G T P d ≤ suc (size G T)
 unfolding valueAt

@@ -84,22 +84,22 @@ module _ (t : Task) (formed : WellFormed t) (G : Ground) (node : ℕ → ℕ) (T
         record {
           constants =
               record {
-                inside = λ a h. omega (arith, names-of a h, ok .constants a h, ground-size S G valid, room S G T);
+                inside = λ a h. omega (arith, names-of a h, ok .constants a h, ground-size G T, room S G T);
                 apart = λ a b h k q. apart a b h k (sym (names-of a h) ∙ q ∙ names-of b k);
               };
           closes = closing-room t formed G node T ok valid;
           chased = candidate-chased t formed G node T ok valid;
-          order = ground-size S G valid;
+          order = ground-size G T;
           room = room S G T;
           begins = ok .start;
           embeds = embeds;
           root = ok .root;
-          members = λ A d h a. ok .members A d h (subst (λ (c : ℕ). So (has c A)) (ground-classes S G T valid d h) a);
+          members = λ A d h a. ok .members A d h (subst (λ (c : ℕ). So (has c A)) (ground-classes S G T d h) a);
           pairs = λ P d e h k r.
               ⊎-elim (link-elim G (λ P d e. Follows t λ I g. Related I P (g (node d)) (g (node e))) (ok .pairs) P d e)
               (λ q. absurd (omega (arith, kid-inside S G valid P d e q .0))) (pair-is S G T P d e r);
           names = λ a d h q.
-              let n = names-is a d (omega (arith, ground-size S G valid)) q in
+              let n = names-is a d (omega (arith, ground-size G T)) q in
               subst (λ (i : ℕ). Follows t λ I g. g (node i) ≡ I .names a) (sym (n .1)) (ok .names a (n .0));
           made = made-is;
           covers = covered t G node T ok valid (t .view) cov (G .start) (ok .start);
@@ -115,7 +115,7 @@ module _ (t : Task) (formed : WellFormed t) (x : Prime) (ok : Ok t x) (closed : 
   part = grounded t formed x ok closed
 
   object-room : (d : ℕ) → d < groundOf t x .objects → d < K .size
-  object-room d h = omega (arith, ground-size (t .schema) (groundOf t x) valid, room (t .schema) (groundOf t x) T)
+  object-room d h = omega (arith, ground-size (groundOf t x) T, room (t .schema) (groundOf t x) T)
 
   object-beyond : (n : ℕ) → nodes t ≤ n → objectOf x n ≡ zero
   unfolding objectOf repOf count
@@ -139,7 +139,7 @@ module _ (t : Task) (formed : WellFormed t) (x : Prime) (ok : Ok t x) (closed : 
       }
 
   object-classes : (n : ℕ) → n < nodes t → classesOf (t .schema) (groundOf t x) T (objectOf x n) ≡ setOf x n
-  object-classes n h = ground-classes (t .schema) (groundOf t x) T valid (objectOf x n) (object-inside t x ok n h) ∙ object-set t x ok n h
+  object-classes n h = ground-classes (t .schema) (groundOf t x) T (objectOf x n) (object-inside t x ok n h) ∙ object-set t x ok n h
 
   meets : Meets K (objectOf x) (asked t)
   unfolding groundOf

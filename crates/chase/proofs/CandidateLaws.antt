@@ -30,7 +30,7 @@ use Rattle.chase.proofs.AxiomLaws.{Of, Small, needs-is, needs-of, singl
 use Rattle.chase.proofs.ClosureLaws.{full-small, full-fixed, subclass-closed, image-small, image-fixed, image-values, needs-domain}
 use Rattle.chase.proofs.ClosingLaws.{Chased}
 use Rattle.chase.proofs.GroundLaws.{Grounded}
-use Rattle.chase.proofs.ForestLaws.{Grown, ground-size, grown-classes, lacks-parts, Child, kid-inside, child}
+use Rattle.chase.proofs.ForestLaws.{Grown, ground-size, lacks-parts, Child, kid-inside, child}
 
 -- an entry that passes the test, with what holds of each entry
 any-find : {A : Type 0} (test : A → Bool) (X : A → Type 0) (l : List A) → All X l → So (anyOf test l) → (a : A) × So (test a) × X a
@@ -100,13 +100,14 @@ module _ (G : Ground) where
       )
 
 -- the classes of the ground's objects are those of the ground
-pub ground-classes : (S : Schema) (G : Ground) (T : Forest) → Grown S G bare T → (d : ℕ) → d < G .objects → classesOf S G T d ≡ setAt G d
-unfolding classesOf size
-ground-classes S G T valid d h =
-    grown-classes S G valid d h ∙ ap (λ (b : Bool). cond b (setAt G d) (full (S .signature .classes))) (lt-ltb d (G .objects) h)
+pub ground-classes : (S : Schema) (G : Ground) (T : Forest) (d : ℕ) → d < G .objects → classesOf S G T d ≡ setAt G d
+unfolding classesOf
+ground-classes S G bare d h = ap (λ (b : Bool). cond b (setAt G d) (full (S .signature .classes))) (lt-ltb d (G .objects) h)
+ground-classes S G (grow T m R c) d h =
+    ap (λ (b : Bool). cond b c (classesOf S G T d)) (ne-eqb d (size G T) (omega (arith, ground-size G T))) ∙ ground-classes S G T d h
 
 -- from the size on they are all classes
-full-beyond : (S : Schema) (G : Ground) (T : Forest) (d : ℕ) → size G T ≤ d → classesOf S G T d ≡ full (S .signature .classes)
+pub full-beyond : (S : Schema) (G : Ground) (T : Forest) (d : ℕ) → size G T ≤ d → classesOf S G T d ≡ full (S .signature .classes)
 unfolding classesOf size
 full-beyond S G bare d h = ap (λ (b : Bool). cond b (setAt G d) (full (S .signature .classes))) (le-ltb d (G .objects) h)
 full-beyond S G (grow T m P c) d h =
@@ -143,7 +144,7 @@ module _ (t : Task) (formed : WellFormed t) (G : Ground) (node : ℕ → ℕ) (T
   set-closed : (d : ℕ) → Small S (cls d) × (raise S (cls d) ≡ cls d)
   set-closed d =
       elim (decLt d (G .objects)) [
-        | yes y ↦ subst Closed (sym (ground-classes S G T valid d y)) (grounded .small d y, grounded .raised d y)
+        | yes y ↦ subst Closed (sym (ground-classes S G T d y)) (grounded .small d y, grounded .raised d y)
         | no n ↦
             elim (decLt d u) [
               | yes y ↦
@@ -167,7 +168,7 @@ module _ (t : Task) (formed : WellFormed t) (G : Ground) (node : ℕ → ℕ) (T
 
   link-cls : (P d e : ℕ) → So (links G P d e) → (cls d ≡ setAt G d) × (cls e ≡ setAt G e)
   link-cls P d e l =
-      let h = link-inside t G node grounded P d e l in (ground-classes S G T valid d (h .0), ground-classes S G T valid e (h .1))
+      let h = link-inside t G node grounded P d e l in (ground-classes S G T d (h .0), ground-classes S G T e (h .1))
 
   -- of the pairs from makers
   kid-child : (P d e : ℕ) → kid G T P d ≡ suc e → (c : Child S G T e) × (d ≡ c .maker) × (P ≡ c .attribute)
@@ -262,7 +263,7 @@ module _ (t : Task) (formed : WellFormed t) (G : Ground) (node : ℕ → ℕ) (T
           (λ a.
           let k = asks-link G P d a in (
             k .0,
-            omega (arith, link-inside t G node grounded P d (k .0) (k .1) .1, ground-size S G valid, room S G T),
+            omega (arith, link-inside t G node grounded P d (k .0) (k .1) .1, ground-size G T, room S G T),
             or-left
                 (links G P d (k .0)) (eqb (kid G T P d) (suc (k .0))) (k .1),
           ))

@@ -77,7 +77,7 @@ module _ (t : Task) (G : Ground) (node : ℕ → ℕ) (T : Forest) (grounded : G
     unfolding Stands
     step-stands d e st x =
         let h = stands-ready d st in
-        ⊎-elim (λ k. (omega (arith, ground-size S G valid), inl k))
+        ⊎-elim (λ k. (omega (arith, ground-size G T), inl k))
         (λ q. (hop-inside S G valid r P d e (ready-inside S G T r P d h) q, hop-stands d e st q)) (step-hop r P d e h x)
 
   leads-stand : (p : Path) (l : ℕ → List ℕ) → ((q : ℕ) → q < G .objects → CovPath S G T p q (l q)) → (v w : ℕ) → Stands l v

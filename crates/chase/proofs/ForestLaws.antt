@@ -15,6 +15,18 @@ use Rattle.chase.specs.Forest.{Forest, bare, grow, size, kid, parent, as
 use Rattle.chase.proofs.Numbers.{up-to}
 use Rattle.chase.proofs.TestLaws.{cond-elim, and-both, and-parts, or-right, or-false}
 
+-- the ground's objects are objects, and so is a made value
+pub ground-size : (G : Ground) (T : Forest) → G .objects ≤ size G T
+unfolding size
+ground-size G bare = omega arith
+ground-size G (grow T m R c) = omega (arith, ground-size G T)
+
+pub kid-bound : (G : Ground) (T : Forest) (P d : ℕ) → kid G T P d ≤ size G T
+unfolding kid size
+kid-bound G bare P d = omega arith
+kid-bound G (grow T m R c) P d =
+    cond-elim (λ v. v ≤ suc (size G T)) (eqb m d && eqb R P) (λ _. omega arith) (λ _. omega (arith, kid-bound G T P d))
+
 module _ (S : Schema) (G : Ground) where
   -- U has grown from T
   pub data Grown (T : Forest) : Forest → Type 0 where
@@ -29,10 +41,6 @@ module _ (S : Schema) (G : Ground) where
   unfolding size
   grown-size same = omega arith
   grown-size (more d P h l n) = omega (arith, grown-size h)
-
-  pub ground-size : {T : Forest} → Grown bare T → G .objects ≤ size G T
-  unfolding size
-  ground-size g = grown-size g
 
   pub grown-classes : {T U : Forest} → Grown T U → (d : ℕ) → d < size G T → classesOf S G U d ≡ classesOf S G T d
   unfolding classesOf

@@ -6,7 +6,7 @@ use native.Mathlib.Omega.{arith}
 use mathlib.Core.Bool.{Bool, true, false, _||_, or-assoc, or-false}
 use mathlib.Core.Logic.{_⊎_, inl, inr, ⊎-elim}
 use mathlib.Core.Path.{_≡_, refl, sym, ap, _∙_}
-use mathlib.Core.List.{List, [], _∷_, _++_}
+use mathlib.Core.List.{List, [], _∷_, _++_, map}
 use lib.Dec.{eqb}
 use lib.ListN.{length, getD, take}
 use lib.Seq.{take-suc}
@@ -37,6 +37,11 @@ unfolding anyOf
 any-next test l i d h =
     ap (anyOf test) (take-suc l i d h) ∙ any-append test (take i l) (getD l i d ∷ [])
     ∙ ap (λ (b : Bool). anyOf test (take i l) || b) (or-false (test (getD l i d)))
+
+pub any-map : {A : Type 0} (test : A → Bool) (f : ℕ → A) (l : List ℕ) → anyOf test (map f l) ≡ anyOf (λ w. test (f w)) l
+unfolding anyOf
+any-map test f [] = refl
+any-map test f (w ∷ l) = ap (λ (b : Bool). test (f w) || b) (any-map test f l)
 
 pub upto-keeps : {X : Type 0} (Ok : X → Type 0) (run : ℕ → X → X) (n : ℕ) → ((i : ℕ) → i < n → (x : X) → Ok x → Ok (run i x))
     → (x : X) → Ok x → Ok (upto run n x)

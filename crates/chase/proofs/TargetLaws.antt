@@ -147,7 +147,7 @@ module _ (t : Task) (G : Ground) (node : ℕ → ℕ) (T : Forest) (ok : Grounde
       (passing-below (links G P d) (G .objects))
       (push-ascends (kid G T P d) closing (λ e q. closing-all (λ y. e < y) (kid-inside (t .schema) G valid P d e q .1)) closing-ascends)
       (push-all (λ y. G .objects ≤ y) (kid G T P d) closing (λ e q. kid-inside (t .schema) G valid P d e q .0)
-      (closing-all (λ y. G .objects ≤ y) (ground-size (t .schema) G valid)))
+      (closing-all (λ y. G .objects ≤ y) (ground-size G T)))
 
 -- .. of the candidate of a task
 module _ (t : Task) (formed : WellFormed t) (P d : ℕ) where
@@ -168,7 +168,7 @@ module _ (t : Task) (formed : WellFormed t) (P d : ℕ) where
       let valid = forest-is t formed .0 in
       ⊎-elim
       (λ p.
-      ⊎-elim (λ l. omega (arith, link-inside t G node ok P d e l .1, ground-size S G valid, room S G T))
+      ⊎-elim (λ l. omega (arith, link-inside t G node ok P d e l .1, ground-size G T, room S G T))
       (λ k. omega (arith, kid-inside S G valid P d e k .1, room S G T)) (pair-is S G T P d e p))
       (λ l. omega (arith, l .1, closing-room t formed G node T ok valid P d h (l .0)))
       (pair-cases (chased S G T) (lacks S G T) (size G T) P d e r)

@@ -102,7 +102,7 @@ module _ (t : Task) (ok : Within t) where
 
   name-inside : (a : ℕ) → a < S .signature .constants → G .constants a < n
   name-inside a h =
-      omega (arith, ground-is t (ok .formed) .constants a h, ground-size S G (forest-is t (ok .formed) .0), room S G T)
+      omega (arith, ground-is t (ok .formed) .constants a h, ground-size G T, room S G T)
 
   -- Order.
 

@@ -1,36 +1,27 @@
 -- What the facts of an accepted state tell: they name objects of the state, and the index says which.
 use Prim.Native.Nat.{ℕ, _+_, _*_, _≤_, _<_}
-use mathlib.Core.Bool.{Bool, true, false, So, cond, not, _&&_, _||_, false≢true}
+use mathlib.Core.Bool.{Bool, true, false, So, _&&_, false≢true}
 use mathlib.Core.List.{List}
 use mathlib.Core.Path.{_≡_, refl, sym, _∙_}
 use native.Mathlib.Decide.{decLt}
 use native.Mathlib.Omega.{arith}
-use borrow.Author.Tests.{lt-ltb, le-ltb, ltb-true, eq-eqb, eqb-true, not-false}
-use lib.Dec.{eqb, ltb, leb}
+use borrow.Author.Tests.{lt-ltb, le-ltb, eq-eqb, eqb-true, not-false}
+use lib.Dec.{eqb, ltb}
 use Rattle.records.specs.declared.schema.Signature.{Signature}
 use Rattle.records.specs.Finite.{count}
-use Rattle.records.specs.Layout.{stateLayout, entries, rightAt, objectPart, attributeKinds, constantKinds, factKinds, maxObjects}
+use Rattle.records.specs.Layout.{stateLayout, entries, objectPart, attributeKinds, constantKinds, factKinds, maxObjects}
 use Rattle.records.specs.StateRecord.{objects, kindAt, objectAt, says, stateOf}
 use Rattle.records.specs.Refusal.{faultyFact, declaresKind, namesAt}
-use Rattle.records.proofs.BoolLaws.{or-false-left, or-false-right, and-right, and-both, and-map, false-of}
+use Rattle.records.proofs.BoolLaws.{or-false-left, and-right, and-both, and-map, false-of}
 use Rattle.records.proofs.FiniteLaws.{any-of, any-found, count-found}
 use Rattle.records.proofs.AcceptedLaws.{passes-7, passes-8, passes-10, objects-few, fact-faultless, constant-once}
-use Rattle.records.proofs.StateScanLaws.{fact-object, name-is}
+use Rattle.records.proofs.StateScanLaws.{fact-object, fact-second, name-is}
 use Rattle.index.proofs.TestLaws.{test-same}
 use Rattle.index.proofs.BitSetLaws.{past-bits}
 use Rattle.index.proofs.IndexLaws.{index-says}
 use Rattle.evaluate.specs.Evaluable.{Evaluable}
 use Rattle.evaluate.specs.Rows.{rowBit}
 use Rattle.evaluate.specs.Steps.{endAt}
-
--- a pair's second object, and 0 in any other fact, is below the number of objects
-second-object : (s : Signature) (v : List ℕ) (i : ℕ) → faultyFact s v i ≡ false → rightAt stateLayout v i < objects v
-unfolding faultyFact
-second-object s v i e = pick (leb attributeKinds (kindAt v i) && ltb (kindAt v i) constantKinds) (not-false _ (or-false-right (not (declaresKind s (kindAt v i)) || leb (objects v) (objectAt v i)) _ e))
-  where
-    pick : (t : Bool) → So (cond t (ltb (rightAt stateLayout v i) (objects v)) (eqb (rightAt stateLayout v i) 0)) → rightAt stateLayout v i < objects v
-    pick true h = ltb-true (rightAt stateLayout v i) (objects v) h
-    pick false h = omega (arith, eqb-true (rightAt stateLayout v i) 0 h, fact-object s v i e)
 
 kind-past : (s : Signature) (v : List ℕ) (i : ℕ) → faultyFact s v i ≡ false → factKinds ≤ kindAt v i → ⊥
 unfolding faultyFact
@@ -47,7 +38,7 @@ module _ {s : Signature} {w v seen : List ℕ} (ok : Evaluable s w v seen) where
   objects-room = objects-few v (passes-7 s v (ok .accepted))
 
   pub end-inside : (second : Bool) (i : ℕ) → i < entries stateLayout v → endAt v second i < objects v
-  end-inside true i l = second-object s v i (faultless i l)
+  end-inside true i l = fact-second s v i (faultless i l)
   end-inside false i l = fact-object s v i (faultless i l)
 
   -- A kind's objects.

@@ -8,13 +8,15 @@ use mathlib.Core.Path.{_≡_, refl, sym, ap, ap₂, _∙_}
 use lib.Dec.{eqb}
 use lib.ListN.{length, getD, set, take, drop, length-map, length-drop}
 use lib.Seq.{take-suc, take-suc-set, length-take-le, drop-append-le, drop-length, getD-take, getD-drop}
-use borrow.Author.Tests.{ne-eqb, lt-ltb, le-ltb}
+use borrow.Author.Tests.{ne-eqb}
 use Rattle.records.specs.Layout.{maxAttributes, objectPart}
 use Rattle.records.specs.Schema.{Schema}
 use Rattle.chase.specs.ClassSet.{full}
-use Rattle.chase.specs.Ground.{Ground, setAt}
+use Rattle.chase.specs.Ground.{Ground}
 use Rattle.chase.specs.Forest.{Forest, bare, grow, size, parent, classesOf, entries}
 use Rattle.chase.proofs.ListLaws.{getD-map}
+use Rattle.chase.proofs.ForestLaws.{ground-size}
+use Rattle.chase.proofs.CandidateLaws.{ground-classes, full-beyond}
 use Rattle.chase.proofs.ArrayLaws.{entries-length, classes-entry, parent-entry}
 use Rattle.primary.specs.Words.{edgeOf}
 use Rattle.ground.specs.Objects.{link, linkPart, objectWord, classesIn, attributeIn, makerIn, grownBy, forestIn, groundIn, Laid}
@@ -113,37 +115,19 @@ module _ (g n : ℕ) (objects : List ℕ) (laid : Laid g n objects) where
         ∙ ap₂ (λ (R m : ℕ). cond (eqb R P) (suc m) zero) (entry-at (λ d P c. P) e a b) (entry-at (λ d P c. d) e a b)
 
 -- an object of the ground was not made, and has its own classes
-size-from : (G : Ground) (T : Forest) → G .objects ≤ size G T
-unfolding size
-size-from G bare = omega arith
-size-from G (grow T m R c) = omega (arith, size-from G T)
-
 pub parent-ground : (G : Ground) (T : Forest) (P e : ℕ) → e < G .objects → parent G T P e ≡ zero
 unfolding parent
 parent-ground G bare P e h = refl
 parent-ground G (grow T m R c) P e h =
-    ap (λ (b : Bool). cond b (cond (eqb R P) (suc m) zero) (parent G T P e)) (ne-eqb e (size G T) (omega (arith, size-from G T)))
+    ap (λ (b : Bool). cond b (cond (eqb R P) (suc m) zero) (parent G T P e)) (ne-eqb e (size G T) (omega (arith, ground-size G T)))
     ∙ parent-ground G T P e h
-
-classes-ground : (S : Schema) (G : Ground) (T : Forest) (d : ℕ) → d < G .objects → classesOf S G T d ≡ setAt G d
-unfolding classesOf
-classes-ground S G bare d h = ap (λ (b : Bool). cond b (setAt G d) (full (S .signature .classes))) (lt-ltb d (G .objects) h)
-classes-ground S G (grow T m R c) d h =
-    ap (λ (b : Bool). cond b c (classesOf S G T d)) (ne-eqb d (size G T) (omega (arith, size-from G T))) ∙ classes-ground S G T d h
-
--- a number that is no object has all classes
-classes-outside : (S : Schema) (G : Ground) (T : Forest) (d : ℕ) → size G T ≤ d → classesOf S G T d ≡ full (S .signature .classes)
-unfolding classesOf size
-classes-outside S G bare d h = ap (λ (b : Bool). cond b (setAt G d) (full (S .signature .classes))) (le-ltb d (G .objects) h)
-classes-outside S G (grow T m R c) d h =
-    ap (λ (b : Bool). cond b c (classesOf S G T d)) (ne-eqb d (size G T) (omega arith)) ∙ classes-outside S G T d (omega arith)
 
 module _ (S : Schema) (g n : ℕ) (objects : List ℕ) (laid : Laid g n objects) (edges : List ℕ) where
   pub classes-laid : (d : ℕ) → d < n → classesOf S (groundIn g objects edges) (forestIn g n objects) d ≡ classesIn (getD objects d 0)
   classes-laid d h =
       elim (decLt d g) [
         | yes y ↦
-            classes-ground S (groundIn g objects edges) (forestIn g n objects) d y
+            ground-classes S (groundIn g objects edges) (forestIn g n objects) d y
             ∙ getD-map classesIn (take g objects) d
             (omega (arith, length-take-le g objects (omega (arith, laid .fits, laid .room, laid .ground))))
             ∙ ap classesIn (getD-take g objects d 0 y)
@@ -154,7 +138,7 @@ module _ (S : Schema) (g n : ℕ) (objects : List ℕ) (laid : Laid g n objects)
 
   pub classes-closing : (d : ℕ) → n ≤ d → classesOf S (groundIn g objects edges) (forestIn g n objects) d ≡ full (S .signature .classes)
   classes-closing d h =
-      classes-outside S (groundIn g objects edges) (forestIn g n objects) d (omega (arith, size-laid g n objects laid objects edges))
+      full-beyond S (groundIn g objects edges) (forestIn g n objects) d (omega (arith, size-laid g n objects laid objects edges))
 
 -- the word of a made object says of it what was put in
 module _ (c P d : ℕ) (a : P < maxAttributes) (b : d < objectPart) where

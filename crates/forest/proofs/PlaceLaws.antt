@@ -3,7 +3,7 @@ use Prim.Native.Nat.{ℕ, zero, suc, _+_, _-_, _≤_, _<_}
 use native.Mathlib.Omega.{arith}
 use native.Mathlib.Decide.{decLt, ℕ-discrete}
 use native.Mathlib.Numerals.{add-one}
-use mathlib.Core.Bool.{Bool, true, false, _&&_, false≢true}
+use mathlib.Core.Bool.{Bool, true, false, false≢true}
 use mathlib.Core.List.{List, [], _∷_, _++_, append-nil}
 use mathlib.Core.Path.{_≡_, refl, sym, ap, ap₂, subst, _∙_}
 use lib.Dec.{eqb}
@@ -11,8 +11,9 @@ use lib.ListN.{length, getD, set, take, length-set}
 use lib.Seq.{take-suc, take-suc-set, take-all, getD-take, getD-set-same, getD-set-other, length-take-le}
 use Rattle.records.specs.Concept.{Direction, directionOf}
 use Rattle.chase.specs.Ground.{Ground}
-use Rattle.chase.specs.Forest.{Forest, bare, grow, size, kid, parent, push, hop, next}
+use Rattle.chase.specs.Forest.{Forest, size, kid, parent, push, hop, next}
 use Rattle.chase.proofs.TestLaws.{cond-elim}
+use Rattle.chase.proofs.ForestLaws.{kid-bound}
 use Rattle.ground.specs.Objects.{attributeIn, forestIn, groundIn}
 use Rattle.forest.specs.declared.places.Here.{Here}
 use Rattle.forest.specs.Kept.{Kept}
@@ -59,19 +60,13 @@ module _ (h : Here) (k : ℕ) (stands : Stands h) where
       }
 
 -- where a step leads is an object that is there
-kid-there : (G : Ground) (T : Forest) (P d : ℕ) → kid G T P d ≤ size G T
-unfolding kid size
-kid-there G bare P d = omega arith
-kid-there G (grow T m R c) P d =
-    cond-elim (λ v. v ≤ suc (size G T)) (eqb m d && eqb R P) (λ _. omega arith) (λ _. omega (arith, kid-there G T P d))
-
 module _ {g n : ℕ} {objects : List ℕ} (kept : Kept g n objects) (P d r : ℕ) (h : d < n) where
   pub hopped-ahead : (back : Bool) → back ≡ false → ((edges : List ℕ) → r ≡ kid (groundIn g objects edges) (forestIn g n objects) P d)
       → Hopped g n objects back P d r
   hopped-ahead false q k =
       record {
         value = k;
-        inside = omega (arith, k [], kid-there (groundIn g objects []) (forestIn g n objects) P d, size-laid g n objects (kept .laid) objects []);
+        inside = omega (arith, k [], kid-bound (groundIn g objects []) (forestIn g n objects) P d, size-laid g n objects (kept .laid) objects []);
       }
   hopped-ahead true q k = absurd (false≢true (sym q))
 

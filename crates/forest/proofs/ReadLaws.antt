@@ -4,7 +4,7 @@ use native.Mathlib.Omega.{arith}
 use native.Mathlib.Nat.{one-mul}
 use native.Mathlib.Numerals.{add-one}
 use mathlib.Core.Bool.{Bool, true, false, So, cond, not, _&&_, _||_, and-false}
-use mathlib.Core.List.{List, [], _∷_, map}
+use mathlib.Core.List.{List, [], _∷_}
 use mathlib.Core.Path.{_≡_, refl, sym, ap, ap₂, _∙_}
 use lib.Dec.{eqb, ltb}
 use lib.ListN.{length, getD, take}
@@ -19,7 +19,7 @@ use Rattle.chase.specs.Loops.{anyOf}
 use Rattle.chase.specs.ClassSet.{meets, full}
 use Rattle.chase.specs.Axioms.{collect, needsBy, needs}
 use Rattle.chase.specs.Forest.{Forest, kid, parent, asks, classesOf, lacks}
-use Rattle.chase.proofs.LoopLaws.{any-next}
+use Rattle.chase.proofs.LoopLaws.{any-next, any-map}
 use Rattle.chase.proofs.TestLaws.{or-left, or-right, and-both, and-parts}
 use Rattle.records.proofs.AcceptedLaws.{passes-1}
 use Rattle.chase.proofs.AcceptanceLaws.{accepted-signature}
@@ -95,11 +95,6 @@ module _ (l : List ℕ) (P d : ℕ) where
 
   pub unasked-more : (i : ℕ) → i < length l → Unasked i → from (getD l i 0) ≡ false → Unasked (i + 1)
   unasked-more i h u q = rw add-one (any-next from l i 0 h ∙ ap₂ _||_ u q)
-
-  any-map : {A : Type 0} (test : A → Bool) (f : ℕ → A) (m : List ℕ) → anyOf test (map f m) ≡ anyOf (λ w. test (f w)) m
-  unfolding anyOf
-  any-map test f [] = refl
-  any-map test f (w ∷ m) = ap (λ (b : Bool). test (f w) || b) (any-map test f m)
 
   asks-words : (g : ℕ) (objects : List ℕ) → asks (groundIn g objects l) P d ≡ anyOf from l
   unfolding asks

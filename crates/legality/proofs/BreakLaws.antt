@@ -63,7 +63,7 @@ module _ (s : Signature) (w seen : List ℕ) (ok : AcceptedState s w) (z : Index
       and-three-map {c = not (seenAt seen B (rightAt stateLayout w f))} (eqb-true (kindAt w f) (attributeKinds + P))
       (λ u. first-seen A f (omega arith) l ∙ u) (false-of-not _) t
       in
-      let r = value-inside s w ok P f (n .1) l (p .0) in
+      let r = value-inside s w ok f l in
       not-both (says w B (rightAt stateLayout w f))
       (h (objectAt w f) (object-inside s w ok f l) (p .1) (rightAt stateLayout w f) r (pair-of w (attributeKinds + P) f l (p .0)))
       (seen-is B (rightAt stateLayout w f) (omega arith) r ∙ p .2)
@@ -73,8 +73,8 @@ module _ (s : Signature) (w seen : List ℕ) (ok : AcceptedState s w) (z : Index
       let g = p .2 in
       let same =
       h (objectAt w f) (object-inside s w ok f l) (p .1)
-      (rightAt stateLayout w f) (value-inside s w ok P f (n .1) l (p .0)) (pair-of w (attributeKinds + P) f l (p .0))
-      (rightAt stateLayout w (g .0)) (value-inside s w ok P (g .0) (n .1) (g .1) (g .2 .0 ∙ p .0))
+      (rightAt stateLayout w f) (value-inside s w ok f l) (pair-of w (attributeKinds + P) f l (p .0))
+      (rightAt stateLayout w (g .0)) (value-inside s w ok (g .0) (g .1))
       (pair-iff w (attributeKinds + P) (objectAt w f) (rightAt stateLayout w (g .0)) .1 (g .0, g .1, (g .2 .0 ∙ p .0, g .2 .1, refl)))
       in
       omega (arith, same, g .2 .2)
@@ -83,7 +83,7 @@ module _ (s : Signature) (w seen : List ℕ) (ok : AcceptedState s w) (z : Index
       and-map {b = not (seenAt seen A (objectAt w f) && seenAt seen B (rightAt stateLayout w f))} (eqb-true (kindAt w f) (attributeKinds + P))
       (false-of-not _) t
       in
-      let r = value-inside s w ok P f (n .0) l (p .0) in
+      let r = value-inside s w ok f l in
       let q = h (objectAt w f) (object-inside s w ok f l) (rightAt stateLayout w f) r (pair-of w (attributeKinds + P) f l (p .0)) in
       not-both (seenAt seen A (objectAt w f) && seenAt seen B (rightAt stateLayout w f))
       (and-both _ _ (sym (first-seen A f (omega arith) l) ∙ q .0) (sym (seen-is B (rightAt stateLayout w f) (omega arith) r) ∙ q .1))
@@ -101,7 +101,7 @@ module _ (s : Signature) (w seen : List ℕ) (ok : AcceptedState s w) (z : Index
     where
       typed : (f : ℕ) → f < entries stateLayout w → kindAt w f ≡ attributeKinds + P → So (says w A (objectAt w f)) → So (says w B (rightAt stateLayout w f))
       typed f l k p =
-          seen-is B (rightAt stateLayout w f) (omega arith) (value-inside s w ok P f (n .1) l k)
+          seen-is B (rightAt stateLayout w f) (omega arith) (value-inside s w ok f l)
           ∙ implied (isPair w P f && seenAt seen A (objectAt w f)) (seenAt seen B (rightAt stateLayout w f)) (any-none _ (entries stateLayout w) q f l)
           (and-both _ _ (eq-eqb (kindAt w f) (attributeKinds + P) k) (sym (first-seen A f (omega arith) l) ∙ p))
   unbroken (Necessary A P) n o q = λ d l p.
@@ -111,7 +111,7 @@ module _ (s : Signature) (w seen : List ℕ) (ok : AcceptedState s w) (z : Index
       in
       let f = says-iff w (attributeKinds + P) d .0 v in (
         rightAt stateLayout w (f .0),
-        value-inside s w ok P (f .0) (n .1) (f .1) (f .2 .0),
+        value-inside s w ok (f .0) (f .1),
         pair-iff w (attributeKinds + P) d (rightAt stateLayout w (f .0)) .1 (f .0, f .1, (f .2 .0, f .2 .1, refl)),
       )
   unbroken (Single A P) n o q = λ d l p e m r e′ m′ r′.
@@ -140,5 +140,5 @@ module _ (s : Signature) (w seen : List ℕ) (ok : AcceptedState s w) (z : Index
     where
       related : (f : ℕ) → f < entries stateLayout w → kindAt w f ≡ attributeKinds + P → So (says w A (objectAt w f)) × So (says w B (rightAt stateLayout w f))
       related f l k =
-          and-map (λ u. first-seen A f (omega arith) l ∙ u) (λ u. seen-is B (rightAt stateLayout w f) (omega arith) (value-inside s w ok P f (n .0) l k) ∙ u)
+          and-map (λ u. first-seen A f (omega arith) l ∙ u) (λ u. seen-is B (rightAt stateLayout w f) (omega arith) (value-inside s w ok f l) ∙ u)
           (implied (isPair w P f) (seenAt seen A (objectAt w f) && seenAt seen B (rightAt stateLayout w f)) (any-none _ (entries stateLayout w) q f l) (eq-eqb (kindAt w f) (attributeKinds + P) k))

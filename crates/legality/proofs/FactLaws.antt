@@ -1,23 +1,23 @@
 -- The facts of an accepted state: members and pairs are facts, their objects are inside, and facts of one left word stand
 -- next to each other, since the facts ascend.
-use Prim.Native.Nat.{ℕ, zero, suc, _+_, _-_, _≤_, _<_}
-use mathlib.Core.Bool.{So, false, not, _||_, false≢true}
+use Prim.Native.Nat.{ℕ, zero, suc, _-_, _≤_, _<_}
+use mathlib.Core.Bool.{So, false, false≢true}
 use mathlib.Core.List.{List}
 use mathlib.Core.Logic.{_⊎_, inl, inr, ⊎-elim, _↔_}
 use mathlib.Core.Path.{_≡_, refl, ap}
 use native.Mathlib.Nat.{eq-or-lt-of-le, le-of-suc-le-suc, le-of-eq, le-trans}
 use native.Mathlib.Omega.{arith}
-use borrow.Author.Tests.{eq-eqb, eqb-true, ltb-true, lt-ltb, le-leb, not-false}
-use lib.Dec.{ltb, leb}
+use borrow.Author.Tests.{eq-eqb, eqb-true, ltb-true, lt-ltb}
+use lib.Dec.{ltb}
 use Rattle.records.specs.declared.schema.Signature.{Signature}
-use Rattle.records.specs.Layout.{stateLayout, entries, leftAt, rightAt, attributeKinds, constantKinds, maxAttributes, maxObjects}
+use Rattle.records.specs.Layout.{stateLayout, entries, leftAt, rightAt, maxObjects}
 use Rattle.records.specs.StateRecord.{objects, kindAt, objectAt, says, saysPair}
-use Rattle.records.specs.Refusal.{AcceptedState, declaresKind, faultyFact, suitsKind, ascends}
-use Rattle.records.proofs.BoolLaws.{or-false-right, or-true-cases, and-right, and-both, and-map, and-iff, and-three-iff}
+use Rattle.records.specs.Refusal.{AcceptedState, faultyFact, ascends}
+use Rattle.records.proofs.BoolLaws.{or-true-cases, and-right, and-both, and-map, and-iff, and-three-iff}
 use Rattle.records.proofs.FiniteLaws.{any-iff}
 use Rattle.records.proofs.ExecutableLaws.{eqb-iff}
 use Rattle.records.proofs.AcceptedLaws.{passes-7, passes-8, passes-9, objects-few, fact-faultless, fact-ascends}
-use Rattle.records.proofs.StateScanLaws.{fact-object}
+use Rattle.records.proofs.StateScanLaws.{fact-object, fact-second}
 use Rattle.legality.specs.Breaks.{repeatsLeft}
 
 pub says-iff : (w : List ℕ) (k d : ℕ) → So (says w k d) ↔ ((f : ℕ) × (f < entries stateLayout w) × ((kindAt w f ≡ k) × (objectAt w f ≡ d)))
@@ -45,15 +45,8 @@ module _ (s : Signature) (w : List ℕ) (ok : AcceptedState s w) where
   pub object-inside : (f : ℕ) → f < entries stateLayout w → objectAt w f < objects w
   object-inside f l = fact-object s w f (faultless f l)
 
-  -- the second object of a pair
-  pub value-inside : (P f : ℕ) → P < maxAttributes → f < entries stateLayout w → kindAt w f ≡ attributeKinds + P → rightAt stateLayout w f < objects w
-  unfolding faultyFact
-  value-inside P f h l e =
-      let t : So (suitsKind (objects w) (kindAt w f) (rightAt stateLayout w f)) =
-      not-false _ (or-false-right (not (declaresKind s (kindAt w f)) || leb (objects w) (objectAt w f)) _ (faultless f l))
-      in
-      ltb-true (rightAt stateLayout w f) (objects w)
-      (rw (e, le-leb attributeKinds (attributeKinds + P) (omega arith), lt-ltb (attributeKinds + P) constantKinds (omega arith)) at t)
+  pub value-inside : (f : ℕ) → f < entries stateLayout w → rightAt stateLayout w f < objects w
+  value-inside f l = fact-second s w f (faultless f l)
 
   -- Order.
 

@@ -15,7 +15,7 @@ use lib.ListN.{length, getD, set, length-set, replicate, getD-replicate, List·g
 use lib.Seq.{getD-set-same, getD-set-other}
 use Rattle.records.specs.declared.schema.Signature.{Signature}
 use Rattle.records.specs.Finite.{any, all, count}
-use Rattle.records.specs.Layout.{stateLayout, entries, constantKinds, factKinds, attributeKinds}
+use Rattle.records.specs.Layout.{stateLayout, entries, constantKinds, factKinds, attributeKinds, rightAt}
 use Rattle.records.specs.StateRecord.{kindAt, objectAt, objects, says, stateOf}
 use Rattle.records.specs.Refusal.{ascends, descends, faultyFact, declaresKind, namesAt, shares, misnames, refusal-8, refusal-9, refusal-10}
 use Rattle.records.specs.Scan.{followsAt, slotOf, sameObject, repeatsIn, misnamedAt, misnamed}
@@ -93,6 +93,15 @@ fact-kind s w i e = pick (ltb (kindAt w i) attributeKinds) refl (ltb (kindAt w i
 pub fact-object : (s : Signature) (w : List ℕ) (i : ℕ) → faultyFact s w i ≡ false → objectAt w i < objects w
 unfolding faultyFact
 fact-object s w i e = leb-false (objects w) (objectAt w i) (or-false-right (not (declaresKind s (kindAt w i))) _ (or-false-left _ _ e))
+
+-- a pair's second object, and 0 in any other fact
+pub fact-second : (s : Signature) (w : List ℕ) (i : ℕ) → faultyFact s w i ≡ false → rightAt stateLayout w i < objects w
+unfolding faultyFact
+fact-second s w i e = pick (leb attributeKinds (kindAt w i) && ltb (kindAt w i) constantKinds) (not-false _ (or-false-right (not (declaresKind s (kindAt w i)) || leb (objects w) (objectAt w i)) _ e))
+  where
+    pick : (t : Bool) → So (cond t (ltb (rightAt stateLayout w i) (objects w)) (eqb (rightAt stateLayout w i) 0)) → rightAt stateLayout w i < objects w
+    pick true h = ltb-true (rightAt stateLayout w i) (objects w) h
+    pick false h = omega (arith, eqb-true (rightAt stateLayout w i) 0 h, fact-object s w i e)
 
 slot-is : (k a : ℕ) → a < 4 → eqb (slotOf k) a ≡ eqb k (constantKinds + a)
 slot-is k a l = pick (leb constantKinds k && ltb k factKinds) refl
