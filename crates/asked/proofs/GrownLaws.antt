@@ -1,36 +1,20 @@
 -- A list that grows by facts of one kind: by none, by one, and by those of one item after those of another.
-use Prim.Native.Nat.{ℕ, suc, _+_, _*_, _/_, _%_, _≤_, _<_}
+use Prim.Native.Nat.{ℕ, suc, _+_, _*_, _≤_, _<_}
 use native.Mathlib.Numerals.{add-one}
 use native.Mathlib.Omega.{arith}
 use mathlib.Core.List.{List, [], _∷_, _++_, map, append-nil, append-assoc, map-append}
-use mathlib.Core.Path.{_≡_, refl, sym, ap, ap₂, subst, _∙_}
+use mathlib.Core.Path.{_≡_, refl, sym, ap, subst, _∙_}
 use lib.ListN.{length, take, set, length-set}
 use lib.Seq.{take-suc-set}
 use Rattle.records.specs.Layout.{maxTokens}
 use Rattle.records.specs.Concept.{forward}
 use Rattle.chase.specs.Facts.{Membership, Equation, Edge, Facts, none, member, equal, related, _⊕_}
 use Rattle.primary.specs.Words.{part, memberOf, equationOf, edgeOf}
+use Rattle.primary.proofs.WordLaws.{member-word, equation-word, edge-word}
 use Rattle.asked.specs.declared.words.Kind.{Kind}
 use Rattle.asked.specs.declared.words.Kind.the-variants.{Members, Equations, Edges}
 use Rattle.asked.specs.declared.words.Words.{Words}
 use Rattle.asked.specs.Listed.{listed, pushed, Room, Adds, Grown}
-
--- A word of two parts, and of three.
-
-two-parts : (a n : ℕ) → n < part → ((a * part + n) / part ≡ a) × ((a * part + n) % part ≡ n)
-two-parts a n h = (omega arith, omega arith)
-
-member-word : (A n : ℕ) → n < part → memberOf (A * part + n) ≡ record { class = A; node = n }
-member-word A n h = ap₂ (λ (a m : ℕ). record { class = a; node = m }) (two-parts A n h .0) (two-parts A n h .1)
-
-equation-word : (n m : ℕ) → m < part → equationOf (n * part + m) ≡ record { left = n; right = m }
-equation-word n m h = ap₂ (λ (a b : ℕ). record { left = a; right = b }) (two-parts n m h .0) (two-parts n m h .1)
-
-edge-word : (P n m : ℕ) → n < part → m < part → edgeOf ((P * part + n) * part + m) ≡ record { attribute = P; origin = n; target = m }
-edge-word P n m h k =
-    let e = two-parts (P * part + n) m k in
-    ap₂ (λ (a t : ℕ). record { attribute = a / part; origin = a % part; target = t }) (e .0) (e .1)
-    ∙ ap₂ (λ (a o : ℕ). record { attribute = a; origin = o; target = m }) (two-parts P n h .0) (two-parts P n h .1)
 
 -- What is added.
 

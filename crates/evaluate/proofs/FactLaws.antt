@@ -12,10 +12,10 @@ use Rattle.records.specs.Finite.{count}
 use Rattle.records.specs.Layout.{stateLayout, entries, objectPart, attributeKinds, constantKinds, factKinds, maxObjects}
 use Rattle.records.specs.StateRecord.{objects, kindAt, objectAt, says, stateOf}
 use Rattle.records.specs.Refusal.{faultyFact, declaresKind, namesAt}
-use Rattle.records.proofs.BoolLaws.{or-false-left, and-right, and-both, and-map, false-of}
-use Rattle.records.proofs.FiniteLaws.{any-of, any-found, count-found}
+use Rattle.records.proofs.BoolLaws.{or-false-left, and-right, and-both, false-of}
+use Rattle.records.proofs.FiniteLaws.{any-found, count-found}
 use Rattle.records.proofs.AcceptedLaws.{passes-7, passes-8, passes-10, objects-few, fact-faultless, constant-once}
-use Rattle.records.proofs.StateScanLaws.{fact-object, fact-second, name-is}
+use Rattle.records.proofs.StateScanLaws.{says-iff, fact-object, fact-second, name-is}
 use Rattle.index.proofs.TestLaws.{test-same}
 use Rattle.index.proofs.BitSetLaws.{past-bits}
 use Rattle.index.proofs.IndexLaws.{index-says}
@@ -44,17 +44,10 @@ module _ {s : Signature} {w v seen : List ℕ} (ok : Evaluable s w v seen) where
   -- A kind's objects.
 
   says-at : (k d : ℕ) → So (says v k d) → (i : ℕ) × (i < entries stateLayout v) × (kindAt v i ≡ k) × (objectAt v i ≡ d)
-  unfolding says
-  says-at k d t =
-      let (i, l, q) = any-found (λ i. eqb (kindAt v i) k && eqb (objectAt v i) d) (entries stateLayout v) t in
-      let e = and-map (eqb-true (kindAt v i) k) (eqb-true (objectAt v i) d) q in
-      (i, l, e .0, e .1)
+  says-at k d t = let (i, l, e) = says-iff v k d .0 t in (i, l, e .0, e .1)
 
   says-of : (i : ℕ) → i < entries stateLayout v → So (says v (kindAt v i) (objectAt v i))
-  unfolding says
-  says-of i l =
-      any-of (λ j. eqb (kindAt v j) (kindAt v i) && eqb (objectAt v j) (objectAt v i)) (entries stateLayout v) i l
-      (and-both _ _ (eq-eqb (kindAt v i) (kindAt v i) refl) (eq-eqb (objectAt v i) (objectAt v i) refl))
+  says-of i l = says-iff v (kindAt v i) (objectAt v i) .1 (i, l, (refl, refl))
 
   pub says-inside : (k d : ℕ) → (ltb d (objects v) && says v k d) ≡ says v k d
   says-inside k d =

@@ -1,12 +1,13 @@
 -- The edges between nodes as edges between objects, word by word.
-use Prim.Native.Nat.{ℕ, zero, suc, _+_, _*_, _/_, _%_, _≤_, _<_}
+use Prim.Native.Nat.{ℕ, zero, suc, _≤_, _<_}
 use native.Mathlib.Omega.{arith}
 use mathlib.Core.List.{List, [], _∷_, map}
 use mathlib.Core.Path.{_≡_, refl, sym, ap, ap₂, subst, _∙_}
 use lib.ListN.{length, getD}
 use Rattle.chase.specs.Facts.{Edge}
 use Rattle.primary.specs.Formed.{maxNodes}
-use Rattle.primary.specs.Words.{part, edgeOf, EdgeIn, EdgesIn}
+use Rattle.primary.specs.Words.{edgeOf, EdgeIn, EdgesIn}
+use Rattle.primary.proofs.WordLaws.{edge-word}
 use Rattle.primary.proofs.TurnLaws.{changed}
 use Rattle.ground.specs.Numbers.{Inside, objectIn, renumberIn, renumberWord}
 use Rattle.ground.proofs.NumberLaws.{object-part}
@@ -21,19 +22,10 @@ changed-at f (x ∷ l) (suc i) = changed-at f l i
 pub edge-next : (n : ℕ) (f : ℕ → ℕ) (l m : List ℕ) (i : ℕ) → i < length l → EdgesIn n l → m ≡ changed f l i → EdgeIn n (getD m i 0)
 edge-next n f l m i h k e = subst (EdgeIn n) (sym (ap (λ (j : List ℕ). getD j i 0) e ∙ changed-at f l i)) (k i h)
 
-edge-parts : (a o t : ℕ) → o < part → t < part
-    → edgeOf ((a * part + o) * part + t) ≡ record { attribute = a; origin = o; target = t }
-edge-parts a o t h k =
-    let p : ((a * 32 + o) * 32 + t) / 32 ≡ a * 32 + o = omega arith in
-    let q : ((a * 32 + o) * 32 + t) / 32 / 32 ≡ a = omega arith in
-    let r : ((a * 32 + o) * 32 + t) / 32 % 32 ≡ o = omega arith in
-    let s : ((a * 32 + o) * 32 + t) % 32 ≡ t = omega arith in
-    rw (q, r, s)
-
 module _ (r : List ℕ) (inside : Inside r) (few : length r ≤ maxNodes) where
   word-edge : (w : ℕ) → EdgeIn (length r) w → edgeOf (renumberWord r w) ≡ renumberIn r (edgeOf w)
   word-edge w e =
-      edge-parts (edgeOf w .attribute) (objectIn r (edgeOf w .origin)) (objectIn r (edgeOf w .target))
+      edge-word (edgeOf w .attribute) (objectIn r (edgeOf w .origin)) (objectIn r (edgeOf w .target))
       (object-part r _ _ (inside, e .origin) few refl) (object-part r _ _ (inside, e .target) few refl)
 
   pub words-edges : (l : List ℕ) → EdgesIn (length r) l → map edgeOf (map (renumberWord r) l) ≡ map (renumberIn r) (map edgeOf l)

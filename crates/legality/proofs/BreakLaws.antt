@@ -21,7 +21,8 @@ use Rattle.index.specs.Index.{Indexes}
 use Rattle.index.proofs.IndexLaws.{index-says}
 use Rattle.records.specs.InRange.{AxiomInRange}
 use Rattle.legality.specs.Breaks.{seenAt, isPair, objectBreaks, pairBreaks}
-use Rattle.legality.proofs.FactLaws.{PairFact, says-iff, pair-iff, pair-of, few-objects, object-inside, value-inside, repeats-of, repeats-other}
+use Rattle.records.proofs.StateScanLaws.{says-iff}
+use Rattle.legality.proofs.FactLaws.{PairFact, pair-iff, pair-of, few-objects, object-inside, value-inside, repeats-of, repeats-other}
 
 -- where nothing is in a and outside b, what is in a is in b
 implied : (a b : Bool) → (a && not b) ≡ false → So a → So b

@@ -11,18 +11,14 @@ use borrow.Author.Tests.{eq-eqb, eqb-true, ltb-true, lt-ltb}
 use lib.Dec.{ltb}
 use Rattle.records.specs.declared.schema.Signature.{Signature}
 use Rattle.records.specs.Layout.{stateLayout, entries, leftAt, rightAt, maxObjects}
-use Rattle.records.specs.StateRecord.{objects, kindAt, objectAt, says, saysPair}
+use Rattle.records.specs.StateRecord.{objects, kindAt, objectAt, saysPair}
 use Rattle.records.specs.Refusal.{AcceptedState, faultyFact, ascends}
-use Rattle.records.proofs.BoolLaws.{or-true-cases, and-right, and-both, and-map, and-iff, and-three-iff}
+use Rattle.records.proofs.BoolLaws.{or-true-cases, and-right, and-both, and-map, and-three-iff}
 use Rattle.records.proofs.FiniteLaws.{any-iff}
 use Rattle.records.proofs.ExecutableLaws.{eqb-iff}
 use Rattle.records.proofs.AcceptedLaws.{passes-7, passes-8, passes-9, objects-few, fact-faultless, fact-ascends}
 use Rattle.records.proofs.StateScanLaws.{fact-object, fact-second}
 use Rattle.legality.specs.Breaks.{repeatsLeft}
-
-pub says-iff : (w : List ℕ) (k d : ℕ) → So (says w k d) ↔ ((f : ℕ) × (f < entries stateLayout w) × ((kindAt w f ≡ k) × (objectAt w f ≡ d)))
-unfolding says
-says-iff w k d = any-iff λ f. and-iff (eqb-iff (kindAt w f) k) (eqb-iff (objectAt w f) d)
 
 -- some fact is the pair (d, e) of kind k
 abbrev pub PairFact : List ℕ → ℕ → ℕ → ℕ → Type 0
