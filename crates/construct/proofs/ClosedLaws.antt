@@ -1,6 +1,5 @@
 -- The query's facts, read kind by kind, are all that it asks.
 use mathlib.Core.List.{List}
-use mathlib.Core.Path.{_≡_}
 use Prim.Native.Nat.{ℕ}
 use Rattle.chase.specs.Task.{nodes}
 use Rattle.chase.specs.Primary.{primary}

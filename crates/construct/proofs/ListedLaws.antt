@@ -1,13 +1,12 @@
 -- From the closed primary part of a query to the candidate's facts: the ground is laid, the view is walked, the facts are
 -- written, and each is the model's.
-use Prim.Native.Nat.{ℕ, suc, _+_, _-_, _≤_, _<_}
+use Prim.Native.Nat.{ℕ, suc, _-_, _≤_}
 use mathlib.Core.Bool.{Bool, true, false, So, false≢true}
-use mathlib.Core.List.{List, map}
+use mathlib.Core.List.{List}
 use mathlib.Core.Path.{_≡_, refl, sym, ap, subst, _∙_}
 use native.Mathlib.Omega.{arith}
-use lib.ListN.{length, take, length-map}
-use Rattle.records.specs.Finite.{count}
-use Rattle.records.specs.Layout.{maxObjects, maxFacts, querySteps}
+use lib.ListN.{length, length-map}
+use Rattle.records.specs.Layout.{maxFacts, querySteps}
 use Rattle.records.specs.SchemaRecord.{signatureOf, schemaOf}
 use Rattle.records.specs.ConceptRecord.{conceptOf}
 use Rattle.records.proofs.FiniteLaws.{count-le}
@@ -15,7 +14,6 @@ use Rattle.chase.specs.Steps.{conceptSteps}
 use Rattle.chase.specs.Task.{Task, nodes, asked, taskOf}
 use Rattle.chase.specs.Primary.{primary, clash}
 use Rattle.chase.specs.Ground.{live, ground}
-use Rattle.chase.specs.Forest.{walks}
 use Rattle.chase.specs.Candidate.{objects, forest}
 use Rattle.chase.proofs.AcceptanceLaws.{Within, accepted-within}
 use Rattle.chase.proofs.PairLaws.{asked-edges}
@@ -28,7 +26,6 @@ use Rattle.primary.proofs.SettleLaws.{primary-view}
 use Rattle.primary.proofs.BeginLaws.{clash-is}
 use Rattle.ground.specs.Numbers.{renumberIn}
 use Rattle.ground.specs.Objects.{groundIn, forestIn}
-use Rattle.ground.specs.Laying.{Grounds}
 use Rattle.ground.specs.Agrees.{Agrees}
 use Rattle.ground.proofs.GroundLaws.{ground-agrees, grounds-laid, sets-fit}
 use Rattle.forest.specs.Kept.{Kept}
@@ -38,10 +35,9 @@ use Rattle.candidate.specs.Facts.{factsIn}
 use Rattle.candidate.specs.Ready.{Ready}
 use Rattle.candidate.specs.Writing.{Wrote}
 use Rattle.candidate.proofs.AgreeLaws.{objects-are, objects-few, candidate-written}
-use Rattle.construct.specs.declared.Made.{Made}
-use Rattle.construct.specs.Listed.{Triple, Candidate, Listed}
+use Rattle.construct.specs.Listed.{Triple, Listed}
 use Rattle.construct.specs.Closed.{Pair, Laid}
-use Rattle.construct.proofs.NodeLaws.{constants-few, nodes-few}
+use Rattle.construct.proofs.NodeLaws.{nodes-few}
 
 pub pair-of : {s q v : List ℕ} → Triple s q v → Pair s q
 pair-of ok = record { schema-accepted = ok .schema-accepted; query-accepted = ok .query-accepted }

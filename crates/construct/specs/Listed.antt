@@ -1,7 +1,7 @@
 -- The candidate of an accepted triple, as the list of its facts.
 use Prim.Native.Nat.{ℕ, _≤_}
 use mathlib.Core.List.{List}
-use mathlib.Core.Bool.{Bool, false}
+use mathlib.Core.Bool.{false}
 use mathlib.Core.Path.{_≡_}
 use lib.ListN.{length, take}
 use Rattle.records.specs.Layout.{querySteps, viewSteps, maxFacts}

@@ -1,7 +1,7 @@
 -- What is answered to any words, by the first refusal that applies, or by the verdict on accepted records.
 use Prim.Native.Nat.{ℕ}
-use mathlib.Core.List.{List, [], _∷_}
-use mathlib.Core.Bool.{Bool, true, false, So, cond, false≢true}
+use mathlib.Core.List.{List}
+use mathlib.Core.Bool.{false, So, false≢true}
 use mathlib.Core.Path.{_≡_, refl, sym, ap, _∙_}
 use lib.Dec.{eqb}
 use borrow.Author.Tests.{eq-eqb}

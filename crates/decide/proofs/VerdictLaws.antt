@@ -2,7 +2,7 @@
 use Prim.Native.Nat.{ℕ, _≤_}
 use mathlib.Core.List.{List, [], _∷_, _++_}
 use mathlib.Core.Bool.{Bool, true, false, So, cond, _&&_, false≢true}
-use mathlib.Core.Logic.{_⊎_, inl, inr, ⊎-elim}
+use mathlib.Core.Logic.{inl, inr, ⊎-elim}
 use mathlib.Core.Path.{_≡_, refl, sym, ap, ap₂, subst, _∙_}
 use native.Mathlib.Omega.{arith}
 use lib.ListN.{length, drop}
@@ -13,7 +13,7 @@ use Rattle.records.specs.Layout.{maxObjects, maxFacts, maxStateWords}
 use Rattle.records.specs.State.{State}
 use Rattle.records.specs.Schema.{Schema}
 use Rattle.records.specs.Concept.{Concept}
-use Rattle.records.specs.Subsumption.{Counterexample, Open, Held}
+use Rattle.records.specs.Subsumption.{Open, Held}
 use Rattle.records.specs.SchemaRecord.{signatureOf, schemaOf}
 use Rattle.records.specs.ConceptRecord.{conceptOf}
 use Rattle.records.specs.StateRecord.{stateOf}
@@ -33,7 +33,6 @@ use Rattle.chase.proofs.Judged.{written-judged, clash-judged}
 use Rattle.chase.proofs.Answers.{is-small}
 use Rattle.chase.proofs.AcceptanceLaws.{Within, accepted-within}
 use Rattle.chase.proofs.WrittenLaws.{facts-few, written-length, written-size}
-use Rattle.decide.specs.declared.DecideAnswer.{DecideAnswer}
 use Rattle.decide.specs.declared.DecideAnswer.the-variants as answers
 use Rattle.decide.specs.Decision.{Shown, Verdict}
 use Rattle.construct.specs.Listed.{Triple, Candidate}

@@ -1,5 +1,4 @@
 -- The two lists are the parts of arrays that have an entry for each node (NodeLaws).
-use borrow.Author.Needs.{needs}
 use mathlib.Core.Path.{sym, _∙_}
 use Rattle.construct.proofs.ListedLaws.{pair-of}
 use Rattle.construct.proofs.NodeLaws.{zeros-fit, zeros-length}

@@ -1,5 +1,4 @@
 -- The view is walked, the objects are counted and the facts written (ListedLaws).
-use borrow.Author.Needs.{needs}
 use mathlib.Core.Path.{ap}
 use native.Mathlib.Omega.{arith}
 use Rattle.records.specs.declared.schema.Signature.{Signature}

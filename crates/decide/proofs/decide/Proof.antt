@@ -3,7 +3,6 @@ use Rattle.judge.proofs.RefusalLaws.{concept-refused, schema-refused, schema-si
 use borrow.Author.Needs.{needs}
 use borrow.Author.Tests.{le-ltb, lt-ltb}
 use mathlib.Core.Path.{_∙_, sym}
-use native.Mathlib.Omega.{arith}
 use Rattle.records.specs.Layout.{maxStateWords, lengthFor, stateLayout}
 use Rattle.records.specs.Refusal.{refusal-11}
 use Rattle.decide.proofs.DecisionLaws.{decided-by, refused-lent, refused-query, refused-schema, refused-view}

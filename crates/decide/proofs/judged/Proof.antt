@@ -1,8 +1,6 @@
 -- The judge gets the words that were written, and no others.
 use borrow.Author.Needs.{needs}
 use mathlib.Core.Path.{_∙_, ap}
-use native.Mathlib.Omega.{arith}
-use lib.ListN.{length-replicate}
 use Rattle.judge.specs.Counterexample.{counterexampleAnswer}
 use Rattle.chase.specs.Written.{stateRecord}
 use Rattle.decide.proofs.PrefixLaws.{prefix-fits, prefix-is, prefix-length}
