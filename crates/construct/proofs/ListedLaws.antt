@@ -22,7 +22,7 @@ use Rattle.primary.specs.Formed.{prime, maxNodes, Becomes}
 use Rattle.primary.specs.Words.{edgeOf}
 use Rattle.primary.specs.Clash.{clashesIn}
 use Rattle.primary.specs.Asked.{queryTask}
-use Rattle.primary.proofs.SettleLaws.{primary-view}
+use Rattle.primary.proofs.SettleLaws.{primary-view, nodes-few}
 use Rattle.primary.proofs.BeginLaws.{clash-is}
 use Rattle.ground.specs.Numbers.{renumberIn}
 use Rattle.ground.specs.Objects.{groundIn, forestIn}
@@ -37,7 +37,6 @@ use Rattle.candidate.specs.Writing.{Wrote}
 use Rattle.candidate.proofs.AgreeLaws.{objects-are, objects-few, candidate-written}
 use Rattle.construct.specs.Listed.{Triple, Listed}
 use Rattle.construct.specs.Closed.{Pair, Laid}
-use Rattle.construct.proofs.NodeLaws.{nodes-few}
 
 pub pair-of : {s q v : List ℕ} → Triple s q v → Pair s q
 pair-of ok = record { schema-accepted = ok .schema-accepted; query-accepted = ok .query-accepted }
@@ -52,7 +51,7 @@ module _ (s q v : List ℕ) (ok : Triple s q v) (r l : List ℕ)
   reps-nodes = z .size
 
   pub reps-few : length r ≤ maxNodes
-  reps-few = omega (arith, z .size, nodes-few s q (pair-of ok))
+  reps-few = omega (arith, z .size, nodes-few s q (ok .schema-accepted) (ok .query-accepted))
 
   pub constants-inside : signatureOf s .constants ≤ length r
   unfolding taskOf schemaOf

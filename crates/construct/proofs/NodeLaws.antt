@@ -5,13 +5,14 @@ use mathlib.Core.Path.{_≡_, sym}
 use native.Mathlib.Omega.{arith}
 use lib.ListN.{length, getD, take, replicate, length-replicate}
 use lib.Seq.{length-take-le}
-use Rattle.records.specs.Layout.{querySteps, maxConstants}
+use Rattle.records.specs.Layout.{maxConstants}
 use Rattle.records.specs.SchemaRecord.{signatureOf, schemaOf}
-use Rattle.records.proofs.AcceptedLaws.{passes-1, passes-5, passes-6}
+use Rattle.records.proofs.AcceptedLaws.{passes-1}
 use Rattle.chase.specs.Task.{nodes, taskOf}
-use Rattle.chase.proofs.AcceptanceLaws.{accepted-limit, accepted-signature}
+use Rattle.chase.proofs.AcceptanceLaws.{accepted-signature}
 use Rattle.primary.specs.Formed.{maxNodes}
 use Rattle.primary.specs.Asked.{queryTask}
+use Rattle.primary.proofs.SettleLaws.{nodes-few}
 use Rattle.asked.proofs.AskedLaws.{start-is}
 use Rattle.construct.specs.Closed.{Pair}
 
@@ -23,20 +24,10 @@ module _ (s q : List ℕ) (ok : Pair s q) where
   unfolding taskOf schemaOf
   nodes-are a h = omega (arith, start-is s q (ok .schema-accepted) (ok .query-accepted) h)
 
-  pub nodes-few : nodes (queryTask s q) ≤ maxNodes
-  unfolding taskOf schemaOf
-  nodes-few =
-      omega (
-        arith,
-        constants-few,
-        accepted-limit q (passes-5 querySteps (signatureOf s) q (ok .query-accepted)) querySteps
-            (passes-6 querySteps (signatureOf s) q (ok .query-accepted)),
-      )
-
   -- a part of an array of zeros that has an entry for each node
   module _ (n : ℕ) (is : n ≡ nodes (queryTask s q)) where
     pub zeros-fit : n ≤ length {A = ℕ} (replicate maxNodes 0)
-    zeros-fit = omega (arith, is, nodes-few, length-replicate {A = ℕ} maxNodes 0)
+    zeros-fit = omega (arith, is, nodes-few s q (ok .schema-accepted) (ok .query-accepted), length-replicate {A = ℕ} maxNodes 0)
 
     pub zeros-length : n ≡ length {A = ℕ} (take n (replicate maxNodes 0))
     zeros-length = sym (length-take-le {A = ℕ} n (replicate maxNodes 0) zeros-fit)

@@ -1,27 +1,22 @@
 -- The made part depends on the objects, the class sets and the edges of the ground alone. So a ground may take the place of
 -- another that has the same of these, whatever its constants and its start.
-use Prim.Native.Nat.{ℕ, zero, suc, _≤_, _<_, _^_}
-use native.Mathlib.Omega.{arith}
+use Prim.Native.Nat.{ℕ, zero, suc}
 use mathlib.Core.Bool.{Bool, cond, not, _&&_, _||_}
 use mathlib.Core.List.{List, [], _∷_, map}
 use mathlib.Core.Path.{_≡_, refl, ap, ap₂, _∙_}
 use lib.Dec.{eqb, ltb}
-use lib.ListN.{length, getD, take}
-use lib.Seq.{length-take-le, getD-take}
+use lib.ListN.{getD, take}
 use Rattle.records.specs.Finite.{any}
-use Rattle.records.specs.Layout.{maxObjects}
 use Rattle.records.specs.Schema.{Schema}
 use Rattle.records.specs.Concept.{Direction, forward, backward, Concept, class, everything, constant, both, reached, common, Path, empty, step}
 use Rattle.chase.specs.Loops.{anyOf, each, upto}
 use Rattle.chase.specs.ClassSet.{full}
 use Rattle.chase.specs.Axioms.{needs, image}
-use Rattle.chase.specs.Ground.{Ground, setAt}
+use Rattle.chase.specs.Ground.{Ground}
 use Rattle.chase.specs.Forest.{Forest, bare, grow, size, kid, parent, asks, push, hop, next, classesOf, lacks, make, makeFor, walk, trek, walks}
 use Rattle.chase.specs.Candidate.{links, lacking, objects}
-use Rattle.chase.proofs.ListLaws.{getD-map}
 use Rattle.ground.specs.Agrees.{Agrees}
 use Rattle.ground.specs.Objects.{classesIn, groundIn}
-use Rattle.forest.specs.Kept.{Kept}
 
 -- what depends on the number of objects alone
 module _ (G H : Ground) (number : G .objects ≡ H .objects) where
@@ -127,20 +122,4 @@ module _ (g : ℕ) (objects edges : List ℕ) (G : Ground) (same : Agrees (groun
         objects = same .objects;
         sets = ap (map classesIn) e ∙ same .sets;
         edges = same .edges;
-      }
-
-  -- before them: class sets of 32 bits are all that is asked
-  pub kept-same : length objects ≡ maxObjects → g ≤ maxObjects → ((d : ℕ) → d < g → setAt G d < 2 ^ 32) → Kept g g objects
-  kept-same room few small =
-      record {
-        laid = record { room = room; ground = omega arith; fits = few };
-        sets = λ d h.
-            omega (
-              arith,
-              getD-map classesIn (take g objects) d (omega (arith, length-take-le g objects (omega arith))),
-              ap classesIn (getD-take g objects d 0 h),
-              ap (λ (l : List ℕ). getD l d 0) (same .sets),
-              small d h,
-            );
-        makers = λ e a b. absurd (omega arith);
       }

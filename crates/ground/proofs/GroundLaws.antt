@@ -3,23 +3,21 @@
 use Prim.Native.Nat.{ℕ, _^_, _≤_, _<_}
 use native.Mathlib.Omega.{arith}
 use mathlib.Core.List.{List, [], _∷_, map}
-use mathlib.Core.Path.{_≡_, refl, sym, ap, ap₂, subst, _∙_}
+use mathlib.Core.Path.{_≡_, refl, sym, ap, ap₂, _∙_}
 use lib.ListN.{length, getD, take}
 use lib.Pow.{pow-mono}
 use lib.Seq.{getD-take, length-take-le}
 use Rattle.records.specs.Finite.{count}
 use Rattle.records.specs.Layout.{maxClasses}
 use Rattle.chase.specs.Facts.{Edge}
-use Rattle.chase.specs.Task.{Task, WellFormed, nodes, startNode, constantNode, asked, taskOf}
-use Rattle.chase.specs.Primary.{Prime, repOf, setOf, begin, settled, primary}
+use Rattle.chase.specs.Task.{Task, WellFormed, nodes, constantNode, asked}
+use Rattle.chase.specs.Primary.{Prime, repOf, setOf, primary}
 use Rattle.chase.specs.Ground.{setAt, live, objectOf, listing, renumber, groundOf, ground}
-use Rattle.chase.proofs.All.{All, all-unmapped, all-getD}
 use Rattle.chase.proofs.Answers.{ground-is}
 use Rattle.chase.proofs.CountLaws.{count-le}
 use Rattle.chase.proofs.ListLaws.{getD-map}
-use Rattle.primary.specs.Asked.{queryTask}
 use Rattle.primary.specs.Formed.{prime, maxNodes}
-use Rattle.primary.specs.Words.{edgeOf, EdgesIn}
+use Rattle.primary.specs.Words.{edgeOf}
 use Rattle.ground.specs.Objects.{classesIn, groundWord, groundIn, Laid}
 use Rattle.ground.specs.Numbers.{objectIn, renumberIn}
 use Rattle.ground.specs.Laying.{Grounds}
@@ -50,14 +48,10 @@ module _ (t : Task) (r s : List ℕ) (is : prime r s ≡ primary t) where
         edges = k ∙ renumber-any r s (asked t .edges) ∙ ap (λ (x : Prime). map (renumber x) (asked t .edges)) is;
       }
 
-  -- the objects of the constants and of the start
+  -- the objects of the constants
   pub constant-object : (a : ℕ) → objectIn r (constantNode t a) ≡ ground t .constants a
   unfolding ground groundOf objectOf live repOf
   constant-object a = ap (λ (x : Prime). objectOf x (constantNode t a)) is
-
-  pub start-object : objectIn r (startNode t) ≡ ground t .start
-  unfolding ground groundOf objectOf live repOf
-  start-object = ap (λ (x : Prime). objectOf x (startNode t)) is
 
 pub grounds-laid : (x : Prime) (n g : ℕ) (objects : List ℕ) → n ≤ maxNodes → Grounds x n g objects → Laid g g objects
 grounds-laid x n g objects h a =
@@ -65,22 +59,9 @@ grounds-laid x n g objects h a =
 
 -- what the task's ground gives to one that agrees with it
 module _ (t : Task) (formed : WellFormed t) (g : ℕ) (objects fs : List ℕ) (same : Agrees (groundIn g objects fs) (ground t)) where
-  pub edges-inside : EdgesIn g fs
-  edges-inside i h =
-      let k = all-getD (λ w. (edgeOf w .origin < g) × (edgeOf w .target < g)) fs
-      (all-unmapped (λ e. (e .origin < g) × (e .target < g)) edgeOf fs
-      (subst (All (λ e. (e .origin < g) × (e .target < g))) (sym (same .edges))
-      (subst (λ (n : ℕ). All (λ e. (e .origin < n) × (e .target < n)) (ground t .edges)) (sym (same .objects)) (ground-is t formed .edges)))) i h in
-      record { origin = k .0; target = k .1 }
-
   pub sets-fit : t .schema .signature .classes ≤ maxClasses → g ≤ length objects → (d : ℕ) → d < g → classesIn (getD objects d 0) < 2 ^ 32
   sets-fit few room d h =
       let e : setAt (ground t) d ≡ classesIn (getD objects d 0)
       = ap (λ (l : List ℕ). getD l d 0) (sym (same .sets)) ∙ getD-map classesIn (take g objects) d (omega (arith, length-take-le g objects room))
       ∙ ap classesIn (getD-take g objects d 0 h) in
       omega (arith, ground-is t formed .small d (omega (arith, same .objects)), pow-mono few)
-
--- the view has no part in it
-pub ground-view : (s q v : List ℕ) → ground (taskOf s q v) ≡ ground (queryTask s q)
-unfolding ground groundOf primary settled begin asked taskOf
-ground-view s q v = refl

@@ -8,7 +8,7 @@ use mathlib.Core.Path.{_≡_, refl, sym, ap, subst, _∙_}
 use lib.ListN.{length, getD}
 use Rattle.records.specs.Layout.{querySteps}
 use Rattle.records.specs.SchemaRecord.{signatureOf, schemaOf}
-use Rattle.records.specs.Refusal.{AcceptedSchema}
+use Rattle.records.specs.Refusal.{AcceptedSchema, AcceptedConcept}
 use Rattle.records.proofs.AcceptedLaws.{passes-1, passes-2, passes-4, passes-5, passes-6}
 use Rattle.chase.specs.Task.{Task, WellFormed, nodes, asked, taskOf}
 use Rattle.chase.specs.Primary.{Prime, repOf, pass, weight, begin, bound, settled, primary}
@@ -70,21 +70,20 @@ ok-formed t r s ok =
       inside = λ i h. subst (λ (n : ℕ). getD r i 0 < n) (sym (ok .reps)) (ok .inside i (subst (λ (n : ℕ). i < n) (ok .reps) h));
     }
 
+pub nodes-few : (s q : List ℕ) → AcceptedSchema s → AcceptedConcept querySteps (signatureOf s) q → nodes (queryTask s q) ≤ maxNodes
+unfolding taskOf schemaOf
+nodes-few s q legal sound =
+    omega (
+      arith,
+      accepted-signature s (passes-1 s legal),
+      accepted-limit q (passes-5 querySteps (signatureOf s) q sound) querySteps (passes-6 querySteps (signatureOf s) q sound),
+    )
+
 module _ (s q ms qs es : List ℕ) (asks : Asks s q ms qs es) where
   pub asks-formed : WellFormed (queryTask s q)
   asks-formed =
       accepted-formed s q [] (passes-2 s (asks .legal)) (passes-4 querySteps (signatureOf s) q (asks .sound))
       (passes-5 querySteps (signatureOf s) q (asks .sound))
-
-  pub nodes-few : nodes (queryTask s q) ≤ maxNodes
-  unfolding taskOf schemaOf
-  nodes-few =
-      omega (
-        arith,
-        accepted-signature s (passes-1 s (asks .legal)),
-        accepted-limit q (passes-5 querySteps (signatureOf s) q (asks .sound)) querySteps
-            (passes-6 querySteps (signatureOf s) q (asks .sound)),
-      )
 
   pub asks-facts : FactsIn (nodes (queryTask s q)) ms qs es
   unfolding taskOf schemaOf
@@ -109,7 +108,7 @@ module _ (s q ms qs es : List ℕ) (asks : Asks s q ms qs es) where
   -- What the functions need of a part in order, and what a pass leaves.
   module _ (r l : List ℕ) (ok : Ok (queryTask s q) (prime r l)) where
     pub room : (length r ≤ maxNodes) × (length l ≤ maxNodes)
-    room = (omega (arith, nodes-few, ok .reps), omega (arith, nodes-few, ok .sets))
+    room = let few = nodes-few s q (asks .legal) (asks .sound) in (omega (arith, few, ok .reps), omega (arith, few, ok .sets))
 
     pub ready : AcceptedSchema s × Formed r l × FactsIn (length r) ms qs es
     ready =

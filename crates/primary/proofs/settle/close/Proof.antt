@@ -9,7 +9,7 @@ use Rattle.primary.proofs.settle.close.Statement.{statement}
 use Rattle.primary.proofs.settle.close.Tie as tie
 
 begin-requires : tie.Need-begin-requires
-begin-requires c κs = omega (arith, nodes-few _ _ _ _ _ (c .before .before .before .before .before .before .before .before .before .pre .0), c .before .before .before .before .before .before .before .before .before .pre .1)
+begin-requires c κs = omega (arith, nodes-few _ _ (c .before .before .before .before .before .before .before .before .before .pre .0 .legal) (c .before .before .before .before .before .before .before .before .before .pre .0 .sound), c .before .before .before .before .before .before .before .before .before .pre .1)
 
 settle-requires : tie.Need-settle-requires
 settle-requires c κs = (
