@@ -60,13 +60,22 @@ fn run(schema: &[u16], query: &[u16], view: &[u16]) {
     }
 }
 
+// The view is looked at last.
+fn run_with_query(schema: &[u16], query: &[u16], bytes: &mut [u8]) {
+    let mut view = [0u16; CONCEPT_WORDS];
+    let n = files::load(b"view.bin", bytes, &mut view);
+    run(schema, query, &view[..n]);
+}
+
+fn run_with_schema(schema: &[u16], bytes: &mut [u8]) {
+    let mut query = [0u16; CONCEPT_WORDS];
+    let n = files::load(b"query.bin", bytes, &mut query);
+    run_with_query(schema, &query[..n], bytes);
+}
+
 fn main() {
     let mut bytes = [0u8; BYTES];
     let mut schema = [0u16; SCHEMA_WORDS];
-    let mut query = [0u16; CONCEPT_WORDS];
-    let mut view = [0u16; CONCEPT_WORDS];
-    let s = files::load(b"schema.bin", &mut bytes, &mut schema);
-    let q = files::load(b"query.bin", &mut bytes, &mut query);
-    let v = files::load(b"view.bin", &mut bytes, &mut view);
-    run(&schema[..s], &query[..q], &view[..v]);
+    let n = files::load(b"schema.bin", &mut bytes, &mut schema);
+    run_with_schema(&schema[..n], &mut bytes);
 }
