@@ -1,44 +1,26 @@
 -- What is answered to any words, by the first refusal that applies, or by the verdict on accepted records.
 use Prim.Native.Nat.{ℕ}
-use mathlib.Core.List.{List}
-use mathlib.Core.Bool.{false, So, false≢true}
+use mathlib.Core.List.{List, _∷_, _++_}
+use mathlib.Core.Bool.{false≢true}
 use mathlib.Core.Path.{_≡_, refl, sym, ap, _∙_}
-use lib.Dec.{eqb}
 use borrow.Author.Tests.{eq-eqb}
-use Rattle.records.specs.Layout.{querySteps, viewSteps, maxStateWords}
-use Rattle.records.specs.SchemaRecord.{signatureOf}
-use Rattle.records.specs.Refusal.{AcceptedSchema, AcceptedConcept, refusal-11}
-use Rattle.judge.specs.Refusals.{schemaRefusal, queryRefusal, viewRefusal}
+use Rattle.records.specs.Outcome.{firstRefusal}
+use Rattle.records.proofs.OutcomeLaws.{Passed, Turned, first-at, first-none}
 use Rattle.decide.specs.declared.DecideAnswer.{DecideAnswer}
 use Rattle.decide.specs.declared.DecideAnswer.the-variants as answers
-use Rattle.decide.specs.Decision.{decideRefusal, Verdict, Decision}
+use Rattle.decide.specs.Decision.{decideRefusals, Verdict, Decision}
 
 module _ (schema query view lent : List ℕ) where
-  -- a refusal by the number that is the first
-  refused-by : (k : ℕ) → decideRefusal schema query view lent ≡ k → eqb k 0 ≡ false → Decision schema query view lent (answers.Refused k) lent
-  refused-by k e n =
+  -- a number that is not 0, where those before it are
+  pub refused-by : (passed rest : List ℕ) {n m : ℕ} → Passed passed → Turned n m → decideRefusals schema query view lent ≡ passed ++ m ∷ rest
+      → Decision schema query view lent (answers.Refused n) lent
+  refused-by passed rest {n} {m} p t e =
+      let first : firstRefusal (decideRefusals schema query view lent) ≡ m = ap firstRefusal e ∙ first-at passed rest m p (t .1) in
       record {
-        refused = λ _. (ap answers.Refused (sym e), refl);
-        decided = λ z. absurd (false≢true (sym n ∙ eq-eqb k 0 (sym e ∙ z)));
+        refused = λ _. (ap answers.Refused (t .0 ∙ sym first), refl);
+        decided = λ z. absurd (false≢true (sym (t .1) ∙ eq-eqb m 0 (sym first ∙ z)));
       }
 
-  pub refused-schema : eqb (schemaRefusal schema) 0 ≡ false → Decision schema query view lent (answers.Refused (schemaRefusal schema)) lent
-  refused-schema e = refused-by (schemaRefusal schema) (rw e) e
-
-  module _ (ok : AcceptedSchema schema) where
-    pub refused-query : eqb (queryRefusal schema query) 0 ≡ false
-        → Decision schema query view lent (answers.Refused (queryRefusal schema query)) lent
-    refused-query e = refused-by (queryRefusal schema query) (rw (ok, e)) e
-
-    module _ (read : AcceptedConcept querySteps (signatureOf schema) query) where
-      pub refused-view : eqb (viewRefusal schema view) 0 ≡ false
-          → Decision schema query view lent (answers.Refused (viewRefusal schema view)) lent
-      refused-view e = refused-by (viewRefusal schema view) (rw (ok, read, e)) e
-
-      module _ (stored : AcceptedConcept viewSteps (signatureOf schema) view) where
-        pub refused-lent : So (refusal-11 maxStateWords lent) → Decision schema query view lent (answers.Refused 11) lent
-        refused-lent e = refused-by 11 (rw (ok, read, stored, e)) refl
-
-        pub decided-by : refusal-11 maxStateWords lent ≡ false → (answer : DecideAnswer) (words : List ℕ)
-            → Verdict schema query view lent answer words → Decision schema query view lent answer words
-        decided-by e answer words v = record { refused = λ n. absurd (n (rw (ok, read, stored, e))); decided = λ _. v }
+  pub decided-by : Passed (decideRefusals schema query view lent) → (answer : DecideAnswer) (words : List ℕ)
+      → Verdict schema query view lent answer words → Decision schema query view lent answer words
+  decided-by p answer words v = record { refused = λ n. absurd (n (first-none (decideRefusals schema query view lent) p)); decided = λ _. v }

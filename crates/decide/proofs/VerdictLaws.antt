@@ -19,12 +19,12 @@ use Rattle.records.specs.ConceptRecord.{conceptOf}
 use Rattle.records.specs.StateRecord.{stateOf}
 use Rattle.records.specs.Refusal.{AcceptedState}
 use Rattle.records.proofs.AcceptedLaws.{objects-few, passes-7}
+use Rattle.records.proofs.OutcomeLaws.{answered-at, schema-passed, query-passed, view-passed, state-passed}
 use Rattle.judge.specs.declared.counterexample.CounterexampleAnswer.{CounterexampleAnswer}
 use Rattle.judge.specs.declared.counterexample.CounterexampleAnswer.the-variants as counter
-use Rattle.judge.specs.Counterexample.{lowest, finding, counterexampleAnswer}
+use Rattle.judge.specs.Counterexample.{lowest, finding, counterexampleRefusals, counterexampleAnswer}
 use Rattle.records.specs.Executable.{firstBroken}
 use lib.Dec.{eqb, ltb}
-use Rattle.judge.proofs.CounterexampleLaws.{counter-answer}
 use Rattle.judge.proofs.Exactness.{accepted-names, found-exact, none-exact}
 use Rattle.chase.specs.Task.{taskOf}
 use Rattle.chase.specs.Primary.{clash}
@@ -97,7 +97,9 @@ module _ (schema query view lent : List ℕ) (ok : Triple schema query view) whe
     accepted = written-judged schema query view (ok .schema-accepted) (ok .query-accepted) (ok .view-accepted) c .0
 
     found : finding (schemaOf schema) (stateOf w) (conceptOf query) (conceptOf view) ≡ counterexampleAnswer schema query view w
-    found = counter-answer schema query view w (ok .schema-accepted) (ok .query-accepted) (ok .view-accepted) accepted
+    found =
+        answered-at counter.Refused _ (counterexampleRefusals schema query view w)
+        (schema-passed _ (ok .schema-accepted), (query-passed _ _ (ok .query-accepted), (view-passed _ _ (ok .view-accepted), (state-passed _ _ accepted, tt))))
 
     -- the judge knows of no counterexample
     pub verdict-none : OneOf (0 ∷ 2 ∷ []) (tagOf Counter.the-type (counterexampleAnswer schema query view w))

@@ -2,7 +2,6 @@
 -- outside the view; otherwise "open", with the record of such a state at the start of the lent words.
 use Prim.Native.Nat.{ℕ, _≤_}
 use mathlib.Core.List.{List, [], _∷_, _++_}
-use mathlib.Core.Bool.{cond}
 use mathlib.Core.Logic.{_↔_, _⊎_}
 use mathlib.Core.Path.{_≡_}
 use lib.ListN.{length, drop}
@@ -11,19 +10,14 @@ use Rattle.records.specs.Subsumption.{Counterexample, Open, Held}
 use Rattle.records.specs.SchemaRecord.{signatureOf, schemaOf}
 use Rattle.records.specs.ConceptRecord.{conceptOf}
 use Rattle.records.specs.StateRecord.{stateOf}
-use Rattle.records.specs.Refusal.{refusal-11, AcceptedState}
-use Rattle.judge.specs.Refusals.{firstRefusal, schemaRefusal, queryRefusal, viewRefusal}
+use Rattle.records.specs.Refusal.{AcceptedState}
+use Rattle.records.specs.Outcome.{firstRefusal, schemaRefusal, queryRefusal, viewRefusal, lentRefusal}
 use Rattle.decide.specs.declared.DecideAnswer.{DecideAnswer}
 use Rattle.decide.specs.declared.DecideAnswer.the-variants as answers
 
-abbrev pub decideRefusal : List ℕ → List ℕ → List ℕ → List ℕ → ℕ
-decideRefusal schema query view lent =
-    firstRefusal
-    (schemaRefusal schema
-    ∷ queryRefusal schema query
-    ∷ viewRefusal schema view
-    ∷ cond (refusal-11 maxStateWords lent) 11 0
-    ∷ [])
+abbrev pub decideRefusals : List ℕ → List ℕ → List ℕ → List ℕ → List ℕ
+decideRefusals schema query view lent =
+    schemaRefusal schema ∷ queryRefusal schema query ∷ viewRefusal schema view ∷ lentRefusal maxStateWords lent ∷ []
 
 module _ (schema query view lent : List ℕ) where
   -- The words begin with the accepted record of a legal state of n objects, in which object d is in the query and outside the
@@ -48,6 +42,6 @@ module _ (schema query view lent : List ℕ) where
 
     -- what is answered to any words
     pub record Decision : Type 0 where
-      pub refused : (decideRefusal schema query view lent ≡ 0 → ⊥)
-          → (answer ≡ answers.Refused (decideRefusal schema query view lent)) × (words ≡ lent)
-      pub decided : decideRefusal schema query view lent ≡ 0 → Verdict
+      pub refused : (firstRefusal (decideRefusals schema query view lent) ≡ 0 → ⊥)
+          → (answer ≡ answers.Refused (firstRefusal (decideRefusals schema query view lent))) × (words ≡ lent)
+      pub decided : firstRefusal (decideRefusals schema query view lent) ≡ 0 → Verdict

@@ -1,57 +1,21 @@
--- The answer of counterexample, by the first refusal that applies, or by the first broken axiom and the two sets that
--- evaluation gives.
+-- The answer of counterexample on accepted records, by the first broken axiom and the two sets that evaluation gives.
 use Prim.Native.Nat.{ℕ, _≤_, _<_}
 use mathlib.Core.List.{List}
-use mathlib.Core.Bool.{Bool, false, not, _&&_}
+use mathlib.Core.Bool.{Bool, not, _&&_}
 use mathlib.Core.Path.{_≡_, ap₂, _∙_}
 use native.Mathlib.Omega.{arith}
-use lib.Dec.{eqb}
 use borrow.Author.Tests.{eq-eqb, ne-eqb, lt-ltb, le-ltb}
 use Rattle.records.specs.Finite.{least}
 use Rattle.records.proofs.FiniteLaws.{least-le, least-passes, least-first, least-is}
-use Rattle.records.specs.Layout.{querySteps, viewSteps, objectPart}
+use Rattle.records.specs.Layout.{objectPart}
 use Rattle.records.specs.State.{State}
 use Rattle.records.specs.Schema.{Schema}
 use Rattle.records.specs.Concept.{Concept}
 use Rattle.records.specs.Executable.{isIn, firstBroken}
-use Rattle.records.specs.SchemaRecord.{schemaOf, signatureOf}
-use Rattle.records.specs.ConceptRecord.{conceptOf}
-use Rattle.records.specs.StateRecord.{stateOf}
-use Rattle.records.specs.Refusal.{AcceptedSchema, AcceptedConcept, AcceptedState}
 use Rattle.index.specs.BitSet.{bitAt}
 use Rattle.evaluate.specs.Selection.{Selection}
-use Rattle.judge.specs.declared.counterexample.CounterexampleAnswer.the-variants.{No, Yes, Refused}
-use Rattle.judge.specs.Refusals.{schemaRefusal, queryRefusal, viewRefusal, stateRefusal}
-use Rattle.judge.specs.Counterexample.{separates, lowest, finding, counterexampleAnswer, apart}
-
-module _ (schema query view state : List ℕ) where
-  pub counter-schema : eqb (schemaRefusal schema) 0 ≡ false
-      → Refused (schemaRefusal schema) ≡ counterexampleAnswer schema query view state
-  unfolding counterexampleAnswer
-  counter-schema e = rw (e, e)
-
-  module _ (ok : AcceptedSchema schema) where
-    pub counter-query : eqb (queryRefusal schema query) 0 ≡ false
-        → Refused (queryRefusal schema query) ≡ counterexampleAnswer schema query view state
-    unfolding counterexampleAnswer
-    counter-query e = rw (ok, e, e)
-
-    module _ (read : AcceptedConcept querySteps (signatureOf schema) query) where
-      pub counter-view : eqb (viewRefusal schema view) 0 ≡ false
-          → Refused (viewRefusal schema view) ≡ counterexampleAnswer schema query view state
-      unfolding counterexampleAnswer
-      counter-view e = rw (ok, read, e, e)
-
-      module _ (stored : AcceptedConcept viewSteps (signatureOf schema) view) where
-        pub counter-state : eqb (stateRefusal schema state) 0 ≡ false
-            → Refused (stateRefusal schema state) ≡ counterexampleAnswer schema query view state
-        unfolding counterexampleAnswer
-        counter-state e = rw (ok, read, stored, e, e)
-
-        pub counter-answer : AcceptedState (signatureOf schema) state
-            → finding (schemaOf schema) (stateOf state) (conceptOf query) (conceptOf view) ≡ counterexampleAnswer schema query view state
-        unfolding counterexampleAnswer
-        counter-answer fine = rw (ok, read, stored, fine)
+use Rattle.judge.specs.declared.counterexample.CounterexampleAnswer.the-variants.{No, Yes}
+use Rattle.judge.specs.Counterexample.{separates, lowest, finding, apart}
 
 least-same : (f g : ℕ → Bool) (n : ℕ) → ((i : ℕ) → i < n → f i ≡ g i) → least n f ≡ least n g
 least-same f g n same =

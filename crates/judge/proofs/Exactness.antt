@@ -1,34 +1,47 @@
--- What the answers on accepted records say, in the terms of records' definitions: legal means Legal, and an object that is
--- answered is the lowest Counterexample, and where none is answered there is none. (For select: isIn-iff of records.)
-use Prim.Native.Nat.{ℕ, _<_}
-use mathlib.Core.List.{List}
+-- What the entries' answers mean (specs/Exact.antt), for any words: select-exact, legal-exact and counterexample-exact. First of
+-- accepted records: legal means Legal, an object that is answered is the lowest Counterexample, and a mark tells Selects.
+use Prim.Native.Nat.{ℕ, zero, suc, _+_, _-_, _≤_, _<_}
+use mathlib.Core.List.{List, [], _∷_, _++_}
 use mathlib.Core.Bool.{Bool, true, false, So, cond, not, _&&_, false≢true}
-use mathlib.Core.Logic.{_↔_}
+use mathlib.Core.Logic.{_↔_, _⊎_, inl, inr, ⊎-elim}
 use mathlib.Core.Path.{_≡_, refl, sym, ap, subst, _∙_}
 use native.Mathlib.Omega.{arith}
 use native.Mathlib.Decide.{decLt}
+use native.Mathlib.Nat.{eq-or-lt-of-le}
+use lib.ListN.{length, drop, getD, List·getD-append, length-append, length-drop}
+use lib.Seq.{getD-append-add, getD-drop}
 use lib.Dec.{eqb, ltb}
-use borrow.Author.Tests.{eq-eqb, eqb-true, lt-ltb, ltb-true}
+use borrow.Author.Tests.{eq-eqb, eqb-true, ne-eqb, lt-ltb, ltb-true}
 use Rattle.records.specs.Finite.{any, count}
 use Rattle.records.specs.Layout.{stateLayout, entries}
 use Rattle.records.specs.declared.schema.Signature.{Signature}
 use Rattle.records.specs.State.{State, Names}
 use Rattle.records.specs.Schema.{Schema, Legal}
+use Rattle.records.specs.SchemaRecord.{signatureOf, schemaOf}
+use Rattle.records.specs.ConceptRecord.{conceptOf}
 use Rattle.records.specs.Concept.{Concept}
 use Rattle.records.specs.Semantics.{In}
 use Rattle.records.specs.Subsumption.{Counterexample}
 use Rattle.records.specs.Executable.{isIn, holds, firstBroken}
 use Rattle.records.specs.StateRecord.{objects, stateOf}
 use Rattle.records.specs.Refusal.{namesAt, shares, misnames, refusal-10, AcceptedState}
-use Rattle.records.proofs.BoolLaws.{or-false-right}
-use Rattle.records.proofs.FiniteLaws.{any-found, any-none, count-found, least-passes, least-first, least-is}
-use Rattle.records.proofs.ExecutableLaws.{isIn-iff, holds-iff, first-broken-none}
+use Rattle.records.proofs.BoolLaws.{or-false-right, false-of, not-of-false}
+use Rattle.records.proofs.FiniteLaws.{any-found, any-none, count-found, least-le, least-passes, least-first, least-is}
+use Rattle.records.proofs.ExecutableLaws.{isIn-iff, holds-iff, first-broken-none, first-broken-at, first-broken-before}
+use Rattle.records.proofs.OutcomeLaws.{first-passed, outcome-refused, outcome-answered, passed-state, passed-lent}
 use Rattle.records.proofs.AcceptedLaws.{passes-8, passes-10, fact-faultless, constant-once}
 use Rattle.records.proofs.StateScanLaws.{name-is, fact-object}
-use Rattle.judge.specs.Counterexample.{separates, lowest, finding}
-use Rattle.judge.specs.LegalState.{judgement}
+use Rattle.judge.specs.Select.{marks, Result, selection, refusedWith, selectRefusals, selectOutcome}
+use Rattle.judge.specs.Counterexample.{separates, lowest, finding, counterexampleRefusals, counterexampleAnswer}
+use Rattle.judge.specs.LegalState.{judgement, legalRefusals, legalAnswer}
+use Rattle.judge.specs.Exact.{Selected, FirstBroken, Judged, Lowest, Found, SelectExact, LegalExact, CounterexampleExact}
+use Rattle.judge.proofs.MarkLaws.{marks-length}
+use Rattle.judge.proofs.SelectLaws.{count-same}
+use Rattle.judge.specs.declared.select.SelectAnswer.the-variants as select
+use Rattle.judge.specs.declared.legal.LegalAnswer.{LegalAnswer}
+use Rattle.judge.specs.declared.counterexample.CounterexampleAnswer.{CounterexampleAnswer}
 use Rattle.judge.specs.declared.legal.LegalAnswer.the-variants as legal
-use Rattle.judge.specs.declared.counterexample.CounterexampleAnswer.the-variants.{No, Yes}
+use Rattle.judge.specs.declared.counterexample.CounterexampleAnswer.the-variants.{No, Yes, Refused}
 
 -- an accepted state gives each constant its object, and different constants different ones
 module _ (s : Signature) (w : List ℕ) (fine : AcceptedState s w) where
@@ -137,3 +150,175 @@ module _ (S : Schema) (I : State) (names : Names (S .signature .constants) I) wh
         pick true x true y q = false≢true cc
         pick true x false y q = false≢true y
         pick false x b y q = false≢true x
+
+    pub finding-either : (finding S I query view ≡ No) ⊎ ((d : ℕ) × (finding S I query view ≡ Yes d))
+    unfolding finding
+    finding-either = pick (eqb (firstBroken S I) (S .axioms) && ltb (lowest I query view) (I .size))
+      where
+        pick : (b : Bool) → (cond b (Yes (lowest I query view)) No ≡ No) ⊎ ((d : ℕ) × (cond b (Yes (lowest I query view)) No ≡ Yes d))
+        pick true = inr (lowest I query view, refl)
+        pick false = inl refl
+
+    lowest-one : (d e : ℕ) → Lowest S query view I d → Lowest S query view I e → d ≡ e
+    lowest-one d e x y =
+        elim (decLt d e) [
+          | yes l ↦ absurd (y .lower d l (x .found))
+          | no l ↦
+              elim (decLt e d) [
+                | yes m ↦ absurd (x .lower e m (y .found))
+                | no m ↦ omega arith
+              ]
+        ]
+
+    found-lowest : (d : ℕ) → finding S I query view ≡ Yes d → Lowest S query view I d
+    found-lowest d e = let x = found-exact d e in record { found = x .0; lower = x .1 }
+
+    pub finding-found : Found S query view I (finding S I query view)
+    finding-found =
+        record {
+          either = finding-either;
+          is-no = (none-exact, λ n. ⊎-elim (λ e. e) (λ x. absurd (n (x .0) (found-lowest (x .0) (x .1) .found))) finding-either);
+          is-yes = λ d. (
+            found-lowest d,
+            λ l. ⊎-elim (λ e. absurd (none-exact e d (l .found)))
+                (λ x. x .1 ∙ ap Yes (lowest-one (x .0) d (found-lowest (x .0) (x .1)) l)) finding-either,
+          );
+        }
+
+  -- the first broken axiom
+  first-is : (k : ℕ) → FirstBroken S I k → firstBroken S I ≡ k
+  first-is k f =
+      least-is (λ i. not (holds I (S .axiomAt i))) (S .axioms) k (omega (arith, f .inside))
+      (λ h. not-of-false _ (false-of (holds I (S .axiomAt k)) (λ t. f .broken (holds-iff I (S .axiomAt k) .0 t))))
+      (λ i h. ap not (holds-iff I (S .axiomAt i) .1 (f .earlier i h)))
+
+  broken-first : firstBroken S I < S .axioms → FirstBroken S I (firstBroken S I)
+  broken-first l = record { inside = l; broken = first-broken-at S I l; earlier = first-broken-before S I }
+
+  pub judgement-judged : Judged S I (judgement S I)
+  unfolding judgement
+  judgement-judged =
+      record {
+        either = either (eqb (firstBroken S I) (S .axioms));
+        is-legal = judged-exact;
+        is-broken = λ k. (told k (eqb (firstBroken S I) (S .axioms)) refl, λ f. broken k f);
+      }
+    where
+      either : (b : Bool) → (cond b legal.Legal (legal.Broken (firstBroken S I)) ≡ legal.Legal) ⊎ ((k : ℕ) × (cond b legal.Legal (legal.Broken (firstBroken S I)) ≡ legal.Broken k))
+      either true = inl refl
+      either false = inr (firstBroken S I, refl)
+
+      told : (k : ℕ) (b : Bool) → eqb (firstBroken S I) (S .axioms) ≡ b → cond b legal.Legal (legal.Broken (firstBroken S I)) ≡ legal.Broken k → FirstBroken S I k
+      told k true q e = absurd (false≢true cc)
+      told k false q e =
+          let same : firstBroken S I ≡ k = cc in
+          subst (FirstBroken S I) same
+          (broken-first (⊎-elim (λ z. absurd (false≢true (sym q ∙ eq-eqb _ _ z))) (λ l. l) (eq-or-lt-of-le (least-le _ (S .axioms)))))
+
+      broken : (k : ℕ) → FirstBroken S I k → cond (eqb (firstBroken S I) (S .axioms)) legal.Legal (legal.Broken (firstBroken S I)) ≡ legal.Broken k
+      broken k f = rw (ne-eqb (firstBroken S I) (S .axioms) (λ z. omega (arith, z, first-is k f, f .inside)), first-is k f)
+
+-- Select's words: a mark for each object, and the rest as it was.
+
+module _ (f : ℕ → Bool) where
+  mark-at : (n i : ℕ) → i < n → getD (marks f n) i 0 ≡ cond (f i) 1 0
+  unfolding marks
+  mark-at zero i l = absurd (omega arith)
+  mark-at (suc n) i l =
+      elim (decLt i n) [
+        | yes h ↦ List·getD-append (marks f n) _ 0 i (omega (arith, marks-length f n)) ∙ mark-at n i h
+        | no h ↦
+            let e : i ≡ length (marks f n) + 0 = omega (arith, marks-length f n) in
+            let q : i ≡ n = omega arith in
+            ap (λ (k : ℕ). getD (marks f n ++ (cond (f n) 1 0 ∷ [])) k 0) e
+            ∙ getD-append-add (marks f n) (cond (f n) 1 0 ∷ []) 0 0 ∙ ap (λ (k : ℕ). cond (f k) 1 0) (sym q)
+      ]
+
+mark-one : (b : Bool) → b ≡ eqb (cond b 1 0) 1
+mark-one true = refl
+mark-one false = refl
+
+module _ (I : State) (C : Concept) (lent : List ℕ) (room : I .size ≤ length lent) where
+  abbrev words : List ℕ
+  words = marks (isIn I C) (I .size) ++ drop (I .size) lent
+
+  word-at : (i : ℕ) → i < I .size → getD words i 0 ≡ cond (isIn I C i) 1 0
+  word-at i l = List·getD-append (marks (isIn I C) (I .size)) _ 0 i (omega (arith, marks-length (isIn I C) (I .size))) ∙ mark-at (isIn I C) (I .size) i l
+
+  word-later : (i : ℕ) → I .size ≤ i → getD words i 0 ≡ getD lent i 0
+  word-later i l =
+      let e : i ≡ length (marks (isIn I C) (I .size)) + (i - I .size) = omega (arith, marks-length (isIn I C) (I .size)) in
+      let q : I .size + (i - I .size) ≡ i = omega arith in
+      ap (λ (k : ℕ). getD words k 0) e
+      ∙ getD-append-add (marks (isIn I C) (I .size)) (drop (I .size) lent) (i - I .size) 0
+      ∙ getD-drop (I .size) lent (i - I .size) 0 ∙ ap (λ (k : ℕ). getD lent k 0) q
+
+  pub selection-selected : Selected I C lent (selection I C lent .answer) (selection I C lent .words)
+  unfolding selection
+  selection-selected =
+      record {
+        chosen = λ i s. word-at i (s .0) ∙ rw (isIn-iff I C i .1 (s .1));
+        others = λ i l n. word-at i l ∙ rw (false-of (isIn I C i) (λ t. n (l, isIn-iff I C i .0 t)));
+        later = word-later;
+        kept = simp (length-append, length-drop) (omega (arith, marks-length (isIn I C) (I .size)));
+        counted =
+            ap select.Selected
+            (count-same (isIn I C) (λ i. eqb (getD words i 0) 1) (I .size)
+            (λ i l. mark-one (isIn I C i) ∙ ap (λ (k : ℕ). eqb k 1) (sym (word-at i l))));
+      }
+
+-- To any words.
+
+module _ (schema concept state lent : List ℕ) where
+  abbrev select-numbers : List ℕ
+  select-numbers = selectRefusals schema concept state lent
+
+  abbrev marked : Result
+  marked = selection (stateOf state) (conceptOf concept) lent
+
+  pub select-exact : SelectExact schema concept state lent (selectOutcome schema concept state lent .answer) (selectOutcome schema concept state lent .words)
+  unfolding stateOf
+  select-exact =
+      record {
+        refused = λ n.
+            let e = outcome-refused (refusedWith lent) marked select-numbers n in
+            (ap (λ (r : Result). r .answer) e, ap (λ (r : Result). r .words) e);
+        answered = λ z.
+            subst (λ (r : Result). Selected (stateOf state) (conceptOf concept) lent (r .answer) (r .words))
+            (sym (outcome-answered (refusedWith lent) marked select-numbers z))
+            (selection-selected (stateOf state) (conceptOf concept) lent (passed-lent (objects state) lent (first-passed select-numbers z .1 .1 .1 .0)));
+      }
+
+module _ (schema state : List ℕ) where
+  abbrev judged : LegalAnswer
+  judged = judgement (schemaOf schema) (stateOf state)
+
+  pub legal-exact : LegalExact schema state (legalAnswer schema state)
+  unfolding schemaOf
+  legal-exact =
+      record {
+        refused = outcome-refused legal.Refused judged (legalRefusals schema state);
+        answered = λ z.
+            let p = first-passed (legalRefusals schema state) z in
+            subst (Judged (schemaOf schema) (stateOf state)) (sym (outcome-answered legal.Refused judged (legalRefusals schema state) z))
+            (judgement-judged (schemaOf schema) (stateOf state) (accepted-names (signatureOf schema) state (passed-state schema state (p .1 .0))));
+      }
+
+module _ (schema query view state : List ℕ) where
+  abbrev counter-numbers : List ℕ
+  counter-numbers = counterexampleRefusals schema query view state
+
+  abbrev found : CounterexampleAnswer
+  found = finding (schemaOf schema) (stateOf state) (conceptOf query) (conceptOf view)
+
+  pub counterexample-exact : CounterexampleExact schema query view state (counterexampleAnswer schema query view state)
+  unfolding schemaOf
+  counterexample-exact =
+      record {
+        refused = outcome-refused Refused found counter-numbers;
+        answered = λ z.
+            subst (Found (schemaOf schema) (conceptOf query) (conceptOf view) (stateOf state)) (sym (outcome-answered Refused found counter-numbers z))
+            (finding-found (schemaOf schema) (stateOf state)
+            (accepted-names (signatureOf schema) state (passed-state schema state (first-passed counter-numbers z .1 .1 .1 .0))) (conceptOf query)
+            (conceptOf view));
+      }

@@ -1,5 +1,4 @@
 -- Laws that the entries' proofs share, and what the answers say in the terms of the definitions.
-pub mod RefusalLaws
 pub mod LegalLaws
 pub mod SelectLaws
 mod MarkLaws

@@ -1,7 +1,7 @@
 -- Counterexample: the answer is "no", or "yes" with the lowest object that is in the query and outside the view. An illegal
 -- state is no counterexample.
 use Prim.Native.Nat.{ℕ}
-use mathlib.Core.List.{List}
+use mathlib.Core.List.{List, [], _∷_}
 use mathlib.Core.Bool.{Bool, cond, not, _&&_}
 use lib.Dec.{eqb, ltb}
 use mathlib.Core.Path.{_≡_}
@@ -19,7 +19,7 @@ use Rattle.records.specs.ConceptRecord.{conceptOf}
 use Rattle.records.specs.StateRecord.{stateOf}
 use Rattle.judge.specs.declared.counterexample.CounterexampleAnswer.{CounterexampleAnswer}
 use Rattle.judge.specs.declared.counterexample.CounterexampleAnswer.the-variants.{No, Yes, Refused}
-use Rattle.judge.specs.Refusals.{counterexampleRefusal}
+use Rattle.records.specs.Outcome.{schemaRefusal, queryRefusal, viewRefusal, stateRefusal, outcome}
 
 -- object d is in the query and outside the view
 abbrev pub separates : State → Concept → Concept → ℕ → Bool
@@ -33,11 +33,14 @@ unfoldable pub finding : Schema → State → Concept → Concept → Counterexa
 finding S I query view =
     cond (eqb (firstBroken S I) (S .axioms) && ltb (lowest I query view) (I .size)) (Yes (lowest I query view)) No
 
-unfoldable pub counterexampleAnswer : List ℕ → List ℕ → List ℕ → List ℕ → CounterexampleAnswer
+abbrev pub counterexampleRefusals : List ℕ → List ℕ → List ℕ → List ℕ → List ℕ
+counterexampleRefusals schema query view state =
+    schemaRefusal schema ∷ queryRefusal schema query ∷ viewRefusal schema view ∷ stateRefusal schema state ∷ []
+
+abbrev pub counterexampleAnswer : List ℕ → List ℕ → List ℕ → List ℕ → CounterexampleAnswer
 counterexampleAnswer schema query view state =
-    cond (eqb (counterexampleRefusal schema query view state) 0)
+    outcome Refused (counterexampleRefusals schema query view state)
     (finding (schemaOf schema) (stateOf state) (conceptOf query) (conceptOf view))
-    (Refused (counterexampleRefusal schema query view state))
 
 -- What contracts of helper functions cite, and nothing above them.
 

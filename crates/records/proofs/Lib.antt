@@ -3,6 +3,7 @@ pub mod BoolLaws
 pub mod FiniteLaws
 pub mod ExecutableLaws
 pub mod RefusalLaws
+pub mod OutcomeLaws
 pub mod AcceptedLaws
 pub mod ConceptScanLaws
 pub mod StateScanLaws

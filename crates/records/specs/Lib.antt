@@ -14,6 +14,7 @@ pub mod ConceptRecord
 pub mod StateRecord
 -- Turned back, in checking order.
 pub mod Refusal
+pub mod Outcome
 -- The semantics as tests that compute, for the worked examples.
 pub mod Executable
 -- What contracts of helper functions cite, and nothing above them.

@@ -1,7 +1,7 @@
 -- The parts of select's outcome.
 use borrow.Author.Needs.{needs}
 use mathlib.Core.Path.{_∙_, ap}
-use Rattle.judge.specs.Select.{Outcome}
+use Rattle.judge.specs.Select.{Result}
 use Rattle.bikuvoa_c.specs.Answers.{selectReturns, selectWrites}
 use Rattle.bikuvoa_c.proofs.bikuvoa_select.Statement.{statement}
 use Rattle.bikuvoa_c.proofs.bikuvoa_select.Tie as tie
@@ -21,10 +21,10 @@ same-length c = search needs
 returns : tie.Need-returns
 returns c =
     let outcome = c .before .before .before .before .before .select .ensures in (
-      c .select-returns .ensures ∙ ap (λ (o : Outcome). selectReturns (o .answer)) outcome,
+      c .select-returns .ensures ∙ ap (λ (o : Result). selectReturns (o .answer)) outcome,
       (
-        ap (λ (o : Outcome). o .words) outcome,
-        c .before .select-writes .ensures ∙ ap (λ (o : Outcome). selectWrites (o .answer) (c .before .before .before .before .before .before .before .before .before .before .before .args .selected .now)) outcome,
+        ap (λ (o : Result). o .words) outcome,
+        c .before .select-writes .ensures ∙ ap (λ (o : Result). selectWrites (o .answer) (c .before .before .before .before .before .before .before .before .before .before .before .args .selected .now)) outcome,
       ),
     )
 

@@ -1,13 +1,44 @@
--- Each return is by the first refusal that applies, or by the verdict on accepted records (DecisionLaws).
-use Rattle.judge.proofs.RefusalLaws.{concept-refused, schema-refused, schema-signature}
+-- Each return is by the first refusal that applies (OutcomeLaws of records), or by the verdict on accepted records (DecisionLaws).
+use Prim.Native.Nat.{ℕ}
 use borrow.Author.Needs.{needs}
-use borrow.Author.Tests.{le-ltb, lt-ltb}
-use mathlib.Core.Path.{_∙_, sym}
-use Rattle.records.specs.Layout.{maxStateWords, lengthFor, stateLayout}
-use Rattle.records.specs.Refusal.{refusal-11}
-use Rattle.decide.proofs.DecisionLaws.{decided-by, refused-lent, refused-query, refused-schema, refused-view}
+use mathlib.Core.List.{List, [], _∷_}
+use mathlib.Core.Path.{_≡_, refl, sym, _∙_}
+use Rattle.records.specs.Layout.{querySteps, viewSteps, maxStateWords, lengthFor, stateLayout}
+use Rattle.records.specs.SchemaRecord.{signatureOf}
+use Rattle.records.specs.Refusal.{AcceptedSchema, AcceptedConcept}
+use Rattle.records.specs.Outcome.{schemaRefusal, queryRefusal, viewRefusal}
+use Rattle.records.proofs.OutcomeLaws.{schema-turned, concept-turned, lent-turned, schema-signature, schema-passed, query-passed, view-passed, lent-passed}
+use Rattle.decide.proofs.DecisionLaws.{decided-by, refused-by}
 use Rattle.decide.proofs.decide.Statement.{statement}
 use Rattle.decide.proofs.decide.Tie as tie
+
+-- once the schema is accepted
+abbrev S : tie.After-known-told → List ℕ
+S c = c .before .before .before .before .before .before .before .before .args .schema .now
+
+abbrev Q : tie.After-known-told → List ℕ
+Q c = c .before .before .before .before .before .before .before .before .args .query .now
+
+abbrev W : tie.After-known-told → List ℕ
+W c = c .before .before .before .before .before .before .before .before .args .view .now
+
+abbrev L : tie.After-known-told → List ℕ
+L c = c .before .before .before .before .before .before .before .before .args .lent .now
+
+accepted-schema : (c : tie.After-known-told) → (c .before .checked .given .0 .0 ≡ signatureOf (S c)) × AcceptedSchema (S c)
+accepted-schema c =
+    schema-signature (S c) (c .before .checked .given .0 .0) (sym (c .before .before .before .check-schema .ensures) ∙ c .before .checked .given .1)
+
+-- once the query is
+accepted-query : (c : tie.After-enum-told) → AcceptedConcept querySteps (signatureOf (S (c .before .before .before))) (Q (c .before .before .before))
+accepted-query c = rw (accepted-schema (c .before .before .before) .0) at (sym (c .before .before .check-query .ensures) ∙ c .enum-told .given .1)
+
+-- once the view is
+abbrev known : tie.After-enum-told2 → tie.After-known-told
+known c = c .before .before .before .before .before .before
+
+accepted-view : (c : tie.After-enum-told2) → AcceptedConcept viewSteps (signatureOf (S (known c))) (W (known c))
+accepted-view c = rw (accepted-schema (known c) .0) at (sym (c .before .before .check-view .ensures) ∙ c .enum-told2 .given .1)
 
 check-schema-requires : tie.Need-check-schema-requires
 check-schema-requires c κs = tt
@@ -21,10 +52,8 @@ number-requires c κs = tt
 returns : tie.Need-returns
 returns c =
     let a = c .before .before .before .before .before .before .before .args in
-    let checked = c .before .before .check-schema in
-    rw (c .number .ensures, checked .ensures)
-    (refused-schema (a .schema .now) (a .query .now) (a .view .now) (a .lent .now)
-    (rw (checked .ensures) at (schema-refused (checked .result) (c .before .match .keys2))))
+    refused-by (a .schema .now) (a .query .now) (a .view .now) (a .lent .now) [] _ tt
+    (schema-turned (a .schema .now) (c .number .ensures) (c .before .before .check-schema .ensures) (c .before .match .keys2)) refl
 
 check-query-requires : tie.Need-check-query-requires
 check-query-requires c κs = tt
@@ -37,12 +66,9 @@ number-requires-2 c κs = tt
 
 returns-2 : tie.Need-returns-2
 returns-2 c =
-    let a = c .before .before .before .before .before .before .before .before .before .before .before .args in
-    let z = schema-signature (a .schema .now) (c .before .before .before .before .checked .given .0 .0) (sym (c .before .before .before .before .before .before .check-schema .ensures) ∙ c .before .before .before .before .checked .given .1) in
-    let read = c .before .before .check-query in
-    rw (c .number2 .ensures, read .ensures, z .0)
-    (refused-query (a .schema .now) (a .query .now) (a .view .now) (a .lent .now) (z .1)
-    (rw (read .ensures, z .0) at (concept-refused (read .result) (c .before .match2 .keys2))))
+    let k = c .before .before .before in
+    refused-by (S k) (Q k) (W k) (L k) (schemaRefusal (S k) ∷ []) _ (schema-passed _ (accepted-schema k .1), tt)
+    (concept-turned (S k) (Q k) (accepted-schema k .0) querySteps (c .number2 .ensures) (c .before .before .check-query .ensures) (c .before .match2 .keys2)) refl
 
 check-view-requires : tie.Need-check-view-requires
 check-view-requires c κs = tt
@@ -55,33 +81,28 @@ number-requires-3 c κs = tt
 
 returns-3 : tie.Need-returns-3
 returns-3 c =
-    let a = c .before .before .before .before .before .before .before .before .before .before .before .before .before .before .args in
-    let z = schema-signature (a .schema .now) (c .before .before .before .before .before .before .before .checked .given .0 .0) (sym (c .before .before .before .before .before .before .before .before .before .check-schema .ensures) ∙ c .before .before .before .before .before .before .before .checked .given .1) in
-    let stored = c .before .before .check-view in
-    rw (c .number3 .ensures, stored .ensures, z .0)
-    (refused-view (a .schema .now) (a .query .now) (a .view .now) (a .lent .now) (z .1)
-    (rw (z .0) at (sym (c .before .before .before .before .before .check-query .ensures) ∙ c .before .before .before .enum-told .given .1))
-    (rw (stored .ensures, z .0) at (concept-refused (stored .result) (c .before .match3 .keys2))))
+    let k = c .before .before .before .before .before .before in
+    refused-by (S k) (Q k) (W k) (L k) (schemaRefusal (S k) ∷ queryRefusal (S k) (Q k) ∷ []) _
+    (schema-passed _ (accepted-schema k .1), (query-passed _ _ (accepted-query (c .before .before .before)), tt))
+    (concept-turned (S k) (W k) (accepted-schema k .0) viewSteps (c .number3 .ensures) (c .before .before .check-view .ensures) (c .before .match3 .keys2)) refl
 
 returns-4 : tie.Need-returns-4
-unfolding refusal-11 maxStateWords lengthFor stateLayout
+unfolding maxStateWords lengthFor stateLayout
 returns-4 c =
-    let a = c .before .before .before .before .before .before .before .before .before .before .before .before .before .before .before .args in
-    let z = schema-signature (a .schema .now) (c .before .before .before .before .before .before .before .before .checked .given .0 .0) (sym (c .before .before .before .before .before .before .before .before .before .before .check-schema .ensures) ∙ c .before .before .before .before .before .before .before .before .checked .given .1) in
-    refused-lent (a .schema .now) (a .query .now) (a .view .now) (a .lent .now) (z .1)
-    (rw (z .0) at (sym (c .before .before .before .before .before .before .check-query .ensures) ∙ c .before .before .before .before .enum-told .given .1))
-    (rw (z .0) at (sym (c .before .before .before .check-view .ensures) ∙ c .before .enum-told2 .given .1))
-    (lt-ltb _ _ (c .if1 .taken))
+    let e = c .before in
+    let k = known e in
+    refused-by (S k) (Q k) (W k) (L k) (schemaRefusal (S k) ∷ queryRefusal (S k) (Q k) ∷ viewRefusal (S k) (W k) ∷ []) _
+    (schema-passed _ (accepted-schema k .1), (query-passed _ _ (accepted-query (e .before .before .before)), (view-passed _ _ (accepted-view e), tt)))
+    (lent-turned maxStateWords (L k) (c .if1 .taken)) refl
 
 answer-requires : tie.Need-answer-requires
 unfolding maxStateWords lengthFor stateLayout
 answer-requires c κs =
-    let a = c .before .before .before .before .before .before .before .before .before .before .before .before .before .before .before .before .args in
-    let z = schema-signature (a .schema .now) (c .before .before .before .before .before .before .before .before .before .checked .given .0 .0) (sym (c .before .before .before .before .before .before .before .before .before .before .before .check-schema .ensures) ∙ c .before .before .before .before .before .before .before .before .before .checked .given .1) in (
+    let e = c .before .before in (
       record {
-        schema-accepted = z .1;
-        query-accepted = rw (z .0) at (sym (c .before .before .before .before .before .before .before .check-query .ensures) ∙ c .before .before .before .before .before .enum-told .given .1);
-        view-accepted = rw (z .0) at (sym (c .before .before .before .before .check-view .ensures) ∙ c .before .before .enum-told2 .given .1);
+        schema-accepted = accepted-schema (known e) .1;
+        query-accepted = accepted-query (e .before .before .before);
+        view-accepted = accepted-view e;
       },
       c .before .if1 .left,
     )
@@ -90,14 +111,14 @@ same-length : tie.Need-same-length
 same-length c = search needs
 
 returns-5 : tie.Need-returns-5
-unfolding refusal-11 maxStateWords lengthFor stateLayout
+unfolding maxStateWords lengthFor stateLayout
 returns-5 c =
-    let a = c .before .before .before .before .before .before .before .before .before .before .before .before .before .before .before .before .before .before .before .args in
-    let z = schema-signature (a .schema .now) (c .before .before .before .before .before .before .before .before .before .before .before .before .checked .given .0 .0) (sym (c .before .before .before .before .before .before .before .before .before .before .before .before .before .before .check-schema .ensures) ∙ c .before .before .before .before .before .before .before .before .before .before .before .before .checked .given .1) in
-    decided-by (a .schema .now) (a .query .now) (a .view .now) (a .lent .now) (z .1)
-    (rw (z .0) at (sym (c .before .before .before .before .before .before .before .before .before .before .check-query .ensures) ∙ c .before .before .before .before .before .before .before .before .enum-told .given .1))
-    (rw (z .0) at (sym (c .before .before .before .before .before .before .before .check-view .ensures) ∙ c .before .before .before .before .before .enum-told2 .given .1))
-    (le-ltb _ _ (c .before .before .before .before .if1 .left)) _ _ (c .before .before .answer .ensures)
+    let e = c .before .before .before .before .before in
+    let k = known e in
+    decided-by (S k) (Q k) (W k) (L k) (
+      schema-passed _ (accepted-schema k .1),
+      (query-passed _ _ (accepted-query (e .before .before .before)), (view-passed _ _ (accepted-view e), (lent-passed maxStateWords (L k) (c .before .before .before .before .if1 .left), tt))),
+    ) _ _ (c .before .before .answer .ensures)
 
 pub decide-spec : {M : Type 1} → statement M
 decide-spec =

@@ -1,10 +1,49 @@
--- Each return is by the first refusal that applies, or by what accepted records answer (CounterexampleLaws).
-use Rattle.judge.proofs.CounterexampleLaws.{counter-answer, counter-query, counter-schema, counter-state, counter-view}
-use Rattle.judge.proofs.RefusalLaws.{concept-refused, schema-refused, schema-signature, state-refused}
+-- Each return is by the first refusal that applies (OutcomeLaws of records), or by what accepted records answer.
+use Prim.Native.Nat.{ℕ}
 use borrow.Author.Needs.{needs}
-use mathlib.Core.Path.{_∙_, sym}
+use mathlib.Core.List.{List, [], _∷_}
+use mathlib.Core.Path.{_≡_, sym, _∙_}
+use Rattle.records.specs.Layout.{querySteps, viewSteps}
+use Rattle.records.specs.SchemaRecord.{signatureOf}
+use Rattle.records.specs.Refusal.{AcceptedSchema, AcceptedConcept, AcceptedState}
+use Rattle.records.specs.Outcome.{schemaRefusal, queryRefusal, viewRefusal}
+use Rattle.records.proofs.OutcomeLaws.{refused-at, answered-at, schema-turned, concept-turned, state-turned, schema-signature, schema-passed, query-passed, view-passed, state-passed}
+use Rattle.judge.specs.declared.counterexample.CounterexampleAnswer.the-variants.{Refused}
+use Rattle.judge.specs.Counterexample.{counterexampleRefusals}
 use Rattle.judge.proofs.counterexample.counterexample.Statement.{statement}
 use Rattle.judge.proofs.counterexample.counterexample.Tie as tie
+
+-- once the schema is accepted
+abbrev S : tie.After-known-told → List ℕ
+S c = c .before .before .before .before .before .before .before .before .args .schema .now
+
+abbrev Q : tie.After-known-told → List ℕ
+Q c = c .before .before .before .before .before .before .before .before .args .query .now
+
+abbrev W : tie.After-known-told → List ℕ
+W c = c .before .before .before .before .before .before .before .before .args .view .now
+
+abbrev I : tie.After-known-told → List ℕ
+I c = c .before .before .before .before .before .before .before .before .args .state .now
+
+accepted-schema : (c : tie.After-known-told) → (c .before .checked .given .0 .0 ≡ signatureOf (S c)) × AcceptedSchema (S c)
+accepted-schema c =
+    schema-signature (S c) (c .before .checked .given .0 .0) (sym (c .before .before .before .check-schema .ensures) ∙ c .before .checked .given .1)
+
+-- once the query is
+accepted-query : (c : tie.After-enum-told) → AcceptedConcept querySteps (signatureOf (S (c .before .before .before))) (Q (c .before .before .before))
+accepted-query c = rw (accepted-schema (c .before .before .before) .0) at (sym (c .before .before .check-query .ensures) ∙ c .enum-told .given .1)
+
+-- once the view is
+accepted-view : (c : tie.After-enum-told2) → AcceptedConcept viewSteps (signatureOf (S (c .before .before .before .before .before .before))) (W (c .before .before .before .before .before .before))
+accepted-view c = rw (accepted-schema (c .before .before .before .before .before .before) .0) at (sym (c .before .before .check-view .ensures) ∙ c .enum-told2 .given .1)
+
+-- once the state is
+abbrev known : tie.After-enum-told3 → tie.After-known-told
+known c = c .before .before .before .before .before .before .before .before .before
+
+accepted-state : (c : tie.After-enum-told3) → AcceptedState (signatureOf (S (known c))) (I (known c))
+accepted-state c = rw (accepted-schema (known c) .0) at (sym (c .before .before .check-state .ensures) ∙ c .enum-told3 .given .1)
 
 check-schema-requires : tie.Need-check-schema-requires
 check-schema-requires c κs = tt
@@ -17,11 +56,8 @@ number-requires c κs = tt
 
 returns : tie.Need-returns
 returns c =
-    let a = c .before .before .before .before .before .before .before .args in
-    let checked = c .before .before .check-schema in
-    rw (c .number .ensures, checked .ensures)
-    (counter-schema (a .schema .now) (a .query .now) (a .view .now) (a .state .now)
-    (rw (checked .ensures) at (schema-refused (checked .result) (c .before .match .keys2))))
+    refused-at Refused _ [] _ tt
+    (schema-turned (c .before .before .before .before .before .before .before .args .schema .now) (c .number .ensures) (c .before .before .check-schema .ensures) (c .before .match .keys2))
 
 check-query-requires : tie.Need-check-query-requires
 check-query-requires c κs = tt
@@ -34,12 +70,9 @@ number-requires-2 c κs = tt
 
 returns-2 : tie.Need-returns-2
 returns-2 c =
-    let a = c .before .before .before .before .before .before .before .before .before .before .before .args in
-    let z = schema-signature (a .schema .now) (c .before .before .before .before .checked .given .0 .0) (sym (c .before .before .before .before .before .before .check-schema .ensures) ∙ c .before .before .before .before .checked .given .1) in
-    let read = c .before .before .check-query in
-    rw (c .number2 .ensures, read .ensures, z .0)
-    (counter-query (a .schema .now) (a .query .now) (a .view .now) (a .state .now) (z .1)
-    (rw (read .ensures, z .0) at (concept-refused (read .result) (c .before .match2 .keys2))))
+    let k = c .before .before .before in
+    refused-at Refused _ (schemaRefusal (S k) ∷ []) _ (schema-passed _ (accepted-schema k .1), tt)
+    (concept-turned (S k) (Q k) (accepted-schema k .0) querySteps (c .number2 .ensures) (c .before .before .check-query .ensures) (c .before .match2 .keys2))
 
 check-view-requires : tie.Need-check-view-requires
 check-view-requires c κs = tt
@@ -52,13 +85,10 @@ number-requires-3 c κs = tt
 
 returns-3 : tie.Need-returns-3
 returns-3 c =
-    let a = c .before .before .before .before .before .before .before .before .before .before .before .before .before .before .args in
-    let z = schema-signature (a .schema .now) (c .before .before .before .before .before .before .before .checked .given .0 .0) (sym (c .before .before .before .before .before .before .before .before .before .check-schema .ensures) ∙ c .before .before .before .before .before .before .before .checked .given .1) in
-    let stored = c .before .before .check-view in
-    rw (c .number3 .ensures, stored .ensures, z .0)
-    (counter-view (a .schema .now) (a .query .now) (a .view .now) (a .state .now) (z .1)
-    (rw (z .0) at (sym (c .before .before .before .before .before .check-query .ensures) ∙ c .before .before .before .enum-told .given .1))
-    (rw (stored .ensures, z .0) at (concept-refused (stored .result) (c .before .match3 .keys2))))
+    let k = c .before .before .before .before .before .before in
+    refused-at Refused _ (schemaRefusal (S k) ∷ queryRefusal (S k) (Q k) ∷ []) _
+    (schema-passed _ (accepted-schema k .1), (query-passed _ _ (accepted-query (c .before .before .before)), tt))
+    (concept-turned (S k) (W k) (accepted-schema k .0) viewSteps (c .number3 .ensures) (c .before .before .check-view .ensures) (c .before .match3 .keys2))
 
 check-state-requires : tie.Need-check-state-requires
 check-state-requires c κs = tt
@@ -71,19 +101,14 @@ number-requires-4 c κs = tt
 
 returns-4 : tie.Need-returns-4
 returns-4 c =
-    let a = c .before .before .before .before .before .before .before .before .before .before .before .before .before .before .before .before .before .args in
-    let z = schema-signature (a .schema .now) (c .before .before .before .before .before .before .before .before .before .before .checked .given .0 .0) (sym (c .before .before .before .before .before .before .before .before .before .before .before .before .check-schema .ensures) ∙ c .before .before .before .before .before .before .before .before .before .before .checked .given .1) in
-    let judged = c .before .before .check-state in
-    rw (c .number4 .ensures, judged .ensures, z .0)
-    (counter-state (a .schema .now) (a .query .now) (a .view .now) (a .state .now) (z .1)
-    (rw (z .0) at (sym (c .before .before .before .before .before .before .before .before .check-query .ensures) ∙ c .before .before .before .before .before .before .enum-told .given .1))
-    (rw (z .0) at (sym (c .before .before .before .before .before .check-view .ensures) ∙ c .before .before .before .enum-told2 .given .1))
-    (rw (judged .ensures, z .0) at (state-refused (judged .result) (c .before .match4 .keys2))))
+    let k = c .before .before .before .before .before .before .before .before .before in
+    refused-at Refused _ (schemaRefusal (S k) ∷ queryRefusal (S k) (Q k) ∷ viewRefusal (S k) (W k) ∷ []) _
+    (schema-passed _ (accepted-schema k .1), (query-passed _ _ (accepted-query (c .before .before .before .before .before .before)), (view-passed _ _ (accepted-view (c .before .before .before)), tt)))
+    (state-turned (S k) (I k) (accepted-schema k .0) (c .number4 .ensures) (c .before .before .check-state .ensures) (c .before .match4 .keys2))
 
 find-requires : tie.Need-find-requires
 find-requires c κs =
-    let a = c .before .before .before .before .before .before .before .before .before .before .before .before .before .before .before .before .before .args in
-    let z = schema-signature (a .schema .now) (c .before .before .before .before .before .before .before .before .before .before .checked .given .0 .0) (sym (c .before .before .before .before .before .before .before .before .before .before .before .before .check-schema .ensures) ∙ c .before .before .before .before .before .before .before .before .before .before .checked .given .1) in
+    let z = accepted-schema (known c) in
     record {
       signature = z .0;
       schema-accepted = z .1;
@@ -94,13 +119,11 @@ find-requires c κs =
 
 returns-5 : tie.Need-returns-5
 returns-5 c =
-    let a = c .before .before .before .before .before .before .before .before .before .before .before .before .before .before .before .before .before .before .args in
-    let z = schema-signature (a .schema .now) (c .before .before .before .before .before .before .before .before .before .before .before .checked .given .0 .0) (sym (c .before .before .before .before .before .before .before .before .before .before .before .before .before .check-schema .ensures) ∙ c .before .before .before .before .before .before .before .before .before .before .before .checked .given .1) in
+    let e = c .before in
+    let k = known e in
     c .find .ensures
-    ∙ counter-answer (a .schema .now) (a .query .now) (a .view .now) (a .state .now) (z .1)
-    (rw (z .0) at (sym (c .before .before .before .before .before .before .before .before .before .check-query .ensures) ∙ c .before .before .before .before .before .before .before .enum-told .given .1))
-    (rw (z .0) at (sym (c .before .before .before .before .before .before .check-view .ensures) ∙ c .before .before .before .before .enum-told2 .given .1))
-    (rw (z .0) at (sym (c .before .before .before .check-state .ensures) ∙ c .before .enum-told3 .given .1))
+    ∙ answered-at Refused _ (counterexampleRefusals (S k) (Q k) (W k) (I k))
+    (schema-passed _ (accepted-schema k .1), (query-passed _ _ (accepted-query (e .before .before .before .before .before .before)), (view-passed _ _ (accepted-view (e .before .before .before)), (state-passed _ _ (accepted-state e), tt))))
 
 pub counterexample-spec : {M : Type 1} → statement M
 counterexample-spec =

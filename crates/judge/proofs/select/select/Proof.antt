@@ -1,17 +1,58 @@
--- Each return is by the first refusal that applies, or by the set that evaluation gives (SelectLaws).
-use Rattle.judge.proofs.RefusalLaws.{concept-refused, schema-refused, schema-signature, state-refused}
-use Rattle.judge.proofs.SelectLaws.{select-answer, select-concept, select-lent, select-schema, select-state, selection-is}
+-- Each return is by the first refusal that applies (OutcomeLaws of records), or by the set that evaluation gives (SelectLaws).
+use Prim.Native.Nat.{ℕ, _≤_}
 use borrow.Author.Needs.{needs}
-use borrow.Author.Tests.{le-ltb, lt-ltb}
-use mathlib.Core.Path.{_∙_, sym}
+use mathlib.Core.List.{List, [], _∷_}
+use mathlib.Core.Path.{_≡_, sym, _∙_}
 use native.Mathlib.Omega.{arith}
+use lib.ListN.{length}
 use Rattle.records.specs.Layout.{querySteps}
-use Rattle.records.specs.Refusal.{AcceptedConcept, refusal-11}
+use Rattle.records.specs.SchemaRecord.{signatureOf}
 use Rattle.records.specs.ConceptRecord.{conceptOf}
-use Rattle.records.specs.StateRecord.{stateOf}
+use Rattle.records.specs.StateRecord.{objects, stateOf}
+use Rattle.records.specs.Refusal.{AcceptedSchema, AcceptedConcept, AcceptedState}
+use Rattle.records.specs.Outcome.{schemaRefusal, queryRefusal, stateRefusal}
 use Rattle.records.proofs.AcceptedLaws.{passes-3, passes-4, passes-5, passes-7, objects-few}
+use Rattle.records.proofs.OutcomeLaws.{refused-at, answered-at, schema-turned, concept-turned, state-turned, lent-turned, schema-signature, schema-passed, query-passed, state-passed, lent-passed}
+use Rattle.judge.specs.Select.{refusedWith, selectRefusals, selectOutcome, selection}
+use Rattle.judge.proofs.SelectLaws.{selection-is}
 use Rattle.judge.proofs.select.select.Statement.{statement}
 use Rattle.judge.proofs.select.select.Tie as tie
+
+-- once the schema is accepted
+abbrev S : tie.After-known-told → List ℕ
+S c = c .before .before .before .before .before .before .before .before .args .schema .now
+
+abbrev C : tie.After-known-told → List ℕ
+C c = c .before .before .before .before .before .before .before .before .args .concept .now
+
+abbrev I : tie.After-known-told → List ℕ
+I c = c .before .before .before .before .before .before .before .before .args .state .now
+
+abbrev L : tie.After-known-told → List ℕ
+L c = c .before .before .before .before .before .before .before .before .args .lent .now
+
+accepted-schema : (c : tie.After-known-told) → (c .before .checked .given .0 .0 ≡ signatureOf (S c)) × AcceptedSchema (S c)
+accepted-schema c =
+    schema-signature (S c) (c .before .checked .given .0 .0) (sym (c .before .before .before .check-schema .ensures) ∙ c .before .checked .given .1)
+
+-- once the concept is
+accepted-concept : (c : tie.After-enum-told) → AcceptedConcept querySteps (signatureOf (S (c .before .before .before))) (C (c .before .before .before))
+accepted-concept c = rw (accepted-schema (c .before .before .before) .0) at (sym (c .before .before .check-query .ensures) ∙ c .enum-told .given .1)
+
+-- once the state is
+abbrev known : tie.After-enum-told2 → tie.After-known-told
+known c = c .before .before .before .before .before .before
+
+accepted-state : (c : tie.After-enum-told2) → AcceptedState (signatureOf (S (known c))) (I (known c))
+accepted-state c = rw (accepted-schema (known c) .0) at (sym (c .before .before .check-state .ensures) ∙ c .enum-told2 .given .1)
+
+-- once there are enough words
+answered : (c : tie.After-enum-told2) → objects (I (known c)) ≤ length (L (known c))
+    → selection (stateOf (I (known c))) (conceptOf (C (known c))) (L (known c)) ≡ selectOutcome (S (known c)) (C (known c)) (I (known c)) (L (known c))
+answered c h =
+    let k = known c in
+    answered-at (refusedWith (L k)) _ (selectRefusals (S k) (C k) (I k) (L k))
+    (schema-passed _ (accepted-schema k .1), (query-passed _ _ (accepted-concept (c .before .before .before)), (state-passed _ _ (accepted-state c), (lent-passed _ _ h, tt))))
 
 check-schema-requires : tie.Need-check-schema-requires
 check-schema-requires c κs = tt
@@ -24,9 +65,8 @@ number-requires c κs = tt
 
 returns : tie.Need-returns
 returns c =
-    let a = c .before .before .before .before .before .before .before .args in
-    rw (c .number .ensures, c .before .before .check-schema .ensures)
-    (select-schema (a .schema .now) (a .concept .now) (a .state .now) (a .lent .now) (rw (c .before .before .check-schema .ensures) at (schema-refused (c .before .before .check-schema .result) (c .before .match .keys2))))
+    refused-at (refusedWith (c .before .before .before .before .before .before .before .args .lent .now)) _ [] _ tt
+    (schema-turned (c .before .before .before .before .before .before .before .args .schema .now) (c .number .ensures) (c .before .before .check-schema .ensures) (c .before .match .keys2))
 
 check-query-requires : tie.Need-check-query-requires
 check-query-requires c κs = tt
@@ -39,11 +79,9 @@ number-requires-2 c κs = tt
 
 returns-2 : tie.Need-returns-2
 returns-2 c =
-    let a = c .before .before .before .before .before .before .before .before .before .before .before .args in
-    let z = schema-signature (a .schema .now) (c .before .before .before .before .checked .given .0 .0) (sym (c .before .before .before .before .before .before .check-schema .ensures) ∙ c .before .before .before .before .checked .given .1) in
-    rw (c .number2 .ensures, c .before .before .check-query .ensures, z .0)
-    (select-concept (a .schema .now) (a .concept .now) (a .state .now) (a .lent .now) (z .1)
-    (rw (c .before .before .check-query .ensures, z .0) at (concept-refused (c .before .before .check-query .result) (c .before .match2 .keys2))))
+    let k = c .before .before .before in
+    refused-at (refusedWith (L k)) _ (schemaRefusal (S k) ∷ []) _ (schema-passed _ (accepted-schema k .1), tt)
+    (concept-turned (S k) (C k) (accepted-schema k .0) querySteps (c .number2 .ensures) (c .before .before .check-query .ensures) (c .before .match2 .keys2))
 
 check-state-requires : tie.Need-check-state-requires
 check-state-requires c κs = tt
@@ -56,34 +94,34 @@ number-requires-3 c κs = tt
 
 returns-3 : tie.Need-returns-3
 returns-3 c =
-    let a = c .before .before .before .before .before .before .before .before .before .before .before .before .before .before .args in
-    let z = schema-signature (a .schema .now) (c .before .before .before .before .before .before .before .checked .given .0 .0) (sym (c .before .before .before .before .before .before .before .before .before .check-schema .ensures) ∙ c .before .before .before .before .before .before .before .checked .given .1) in
-    rw (c .number3 .ensures, c .before .before .check-state .ensures, z .0)
-    (select-state (a .schema .now) (a .concept .now) (a .state .now) (a .lent .now) (z .1) (rw (z .0) at (sym (c .before .before .before .before .before .check-query .ensures) ∙ c .before .before .before .enum-told .given .1))
-    (rw (c .before .before .check-state .ensures, z .0) at (state-refused (c .before .before .check-state .result) (c .before .match3 .keys2))))
+    let k = c .before .before .before .before .before .before in
+    refused-at (refusedWith (L k)) _ (schemaRefusal (S k) ∷ queryRefusal (S k) (C k) ∷ []) _
+    (schema-passed _ (accepted-schema k .1), (query-passed _ _ (accepted-concept (c .before .before .before)), tt))
+    (state-turned (S k) (I k) (accepted-schema k .0) (c .number3 .ensures) (c .before .before .check-state .ensures) (c .before .match3 .keys2))
 
 objects-requires : tie.Need-objects-requires
 objects-requires c κs = tt
 
 returns-4 : tie.Need-returns-4
-unfolding refusal-11
 returns-4 c =
-    let a = c .before .before .before .before .before .before .before .before .before .before .before .before .before .before .before .before .args in
-    let z = schema-signature (a .schema .now) (c .before .before .before .before .before .before .before .before .before .checked .given .0 .0) (sym (c .before .before .before .before .before .before .before .before .before .before .before .check-schema .ensures) ∙ c .before .before .before .before .before .before .before .before .before .checked .given .1) in
-    select-lent (a .schema .now) (a .concept .now) (a .state .now) (a .lent .now) (z .1) (rw (z .0) at (sym (c .before .before .before .before .before .before .before .check-query .ensures) ∙ c .before .before .before .before .before .enum-told .given .1)) (rw (z .0) at (sym (c .before .before .before .before .check-state .ensures) ∙ c .before .before .enum-told2 .given .1)) (rw (c .before .objects .ensures .value) at (lt-ltb _ _ (c .if1 .taken)))
+    let e = c .before .before in
+    let k = known e in
+    refused-at (refusedWith (L k)) _ (schemaRefusal (S k) ∷ queryRefusal (S k) (C k) ∷ stateRefusal (S k) (I k) ∷ []) _
+    (schema-passed _ (accepted-schema k .1), (query-passed _ _ (accepted-concept (e .before .before .before)), (state-passed _ _ (accepted-state e), tt)))
+    (lent-turned (objects (I k)) (L k) (omega (arith, c .if1 .taken, c .before .objects .ensures .value)))
 
 index-requires : tie.Need-index-requires
 index-requires c κs = tt
 
 evaluate-requires : tie.Need-evaluate-requires
 evaluate-requires c κs =
-    let z = schema-signature (c .before .before .before .before .before .before .before .before .before .before .before .before .before .before .before .before .before .before .args .schema .now) (c .before .before .before .before .before .before .before .before .before .before .before .checked .given .0 .0) (sym (c .before .before .before .before .before .before .before .before .before .before .before .before .before .check-schema .ensures) ∙ c .before .before .before .before .before .before .before .before .before .before .before .checked .given .1) in
-    let read : AcceptedConcept querySteps (c .before .before .before .before .before .before .before .before .before .before .before .checked .given .0 .0) (c .before .before .before .before .before .before .before .before .before .before .before .before .before .before .before .before .before .before .args .concept .now) = sym (c .before .before .before .before .before .before .before .before .before .check-query .ensures) ∙ c .before .before .before .before .before .before .before .enum-told .given .1 in
+    let e = c .before .before .before .before in
+    let read : AcceptedConcept querySteps (known e .before .checked .given .0 .0) (C (known e)) = sym (e .before .before .before .before .before .check-query .ensures) ∙ e .before .before .before .enum-told .given .1 in
     record {
       shape = passes-3 querySteps _ _ read;
       tokens = passes-4 querySteps _ _ read;
       pile = passes-5 querySteps _ _ read;
-      accepted = sym (c .before .before .before .before .before .before .check-state .ensures) ∙ c .before .before .before .before .enum-told2 .given .1;
+      accepted = sym (e .before .before .check-state .ensures) ∙ e .enum-told2 .given .1;
       index = c .before .index .ensures;
     }
 
@@ -94,14 +132,15 @@ same-length : tie.Need-same-length
 same-length c = search needs
 
 returns-5 : tie.Need-returns-5
-unfolding refusal-11 stateOf
+unfolding stateOf
 returns-5 c =
-    let a = c .before .before .before .before .before .before .before .before .before .before .before .before .before .before .before .before .before .before .before .before .before .before .before .before .args in
-    let z = schema-signature (a .schema .now) (c .before .before .before .before .before .before .before .before .before .before .before .before .before .before .before .before .before .checked .given .0 .0) (sym (c .before .before .before .before .before .before .before .before .before .before .before .before .before .before .before .before .before .before .before .check-schema .ensures) ∙ c .before .before .before .before .before .before .before .before .before .before .before .before .before .before .before .before .before .checked .given .1) in
-    rw (c .before .before .mark .ensures .0, c .before .before .mark .ensures .1, c .before .before .before .before .before .before .before .before .before .objects .ensures .value)
-    (selection-is (stateOf (a .state .now)) (conceptOf (a .concept .now)) (a .lent .now) (c .before .before .before .before .before .evaluate .result) (c .before .before .before .before .before .evaluate .ensures)
-    (omega (arith, objects-few (a .state .now) (passes-7 _ _ (rw (z .0) at (sym (c .before .before .before .before .before .before .before .before .before .before .before .before .check-state .ensures) ∙ c .before .before .before .before .before .before .before .before .before .before .enum-told2 .given .1)))))
-    ∙ select-answer (a .schema .now) (a .concept .now) (a .state .now) (a .lent .now) (z .1) (rw (z .0) at (sym (c .before .before .before .before .before .before .before .before .before .before .before .before .before .before .before .check-query .ensures) ∙ c .before .before .before .before .before .before .before .before .before .before .before .before .before .enum-told .given .1)) (rw (z .0) at (sym (c .before .before .before .before .before .before .before .before .before .before .before .before .check-state .ensures) ∙ c .before .before .before .before .before .before .before .before .before .before .enum-told2 .given .1)) (rw (c .before .before .before .before .before .before .before .before .before .objects .ensures .value) at (le-ltb _ _ (c .before .before .before .before .before .before .before .before .if1 .left))))
+    let e = c .before .before .before .before .before .before .before .before .before .before in
+    let k = known e in
+    let n = c .before .before .before .before .before .before .before .before .before .objects .ensures .value in
+    rw (c .before .before .mark .ensures .0, c .before .before .mark .ensures .1, n)
+    (selection-is (stateOf (I k)) (conceptOf (C k)) (L k) (c .before .before .before .before .before .evaluate .result) (c .before .before .before .before .before .evaluate .ensures)
+    (omega (arith, objects-few (I k) (passes-7 _ _ (accepted-state e))))
+    ∙ answered e (omega (arith, n, c .before .before .before .before .before .before .before .before .if1 .left)))
 
 pub select-spec : {M : Type 1} → statement M
 select-spec =

@@ -1,0 +1,199 @@
+-- The first refusal: the laws by which every entry is refused or answers (refused-at, answered-at), what its outcome tells
+-- (outcome-refused, outcome-answered), and the numbers of the checks: 0 where a record is accepted, and otherwise not.
+use Prim.Native.Nat.{ℕ, _≤_, _<_}
+use mathlib.Core.List.{List, [], _∷_, _++_}
+use mathlib.Core.Bool.{Bool, false, true, cond, false≢true}
+use mathlib.Core.Path.{_≡_, refl, sym, ap, _∙_}
+use mathlib.Core.Logic.{⊎-elim}
+use lib.Dec.{eqb}
+use lib.ListN.{length}
+use native.Mathlib.Omega.{arith}
+use borrow.Author.Tests.{eqb-true, eq-eqb, ne-eqb, lt-ltb, le-ltb, ltb-false}
+use types.Run.{OneOf}
+use denote.Enum.Declared.{tagOf}
+use Rattle.records.proofs.schema.SchemaAnswer as Schema
+use Rattle.records.proofs.concept.ConceptAnswer as Concept
+use Rattle.records.proofs.state.StateAnswer as State
+use Rattle.records.specs.declared.schema.Signature.{Signature}
+use Rattle.records.specs.declared.schema.SchemaAnswer.{SchemaAnswer}
+use Rattle.records.specs.declared.schema.SchemaAnswer.the-variants as of-schema
+use Rattle.records.specs.declared.concept.ConceptAnswer.{ConceptAnswer}
+use Rattle.records.specs.declared.concept.ConceptAnswer.the-variants as of-concept
+use Rattle.records.specs.declared.state.StateAnswer.{StateAnswer}
+use Rattle.records.specs.declared.state.StateAnswer.the-variants as of-state
+use Rattle.records.specs.Layout.{querySteps, viewSteps}
+use Rattle.records.specs.Refusal.{schemaNumber, conceptNumber, stateNumber, refusal-1, refusal-2, refusal-11, schemaAnswer, conceptAnswer, stateAnswer, AcceptedSchema, AcceptedConcept, AcceptedState}
+use Rattle.records.specs.SchemaRecord.{signatureOf}
+use Rattle.records.specs.Outcome.{schemaRefusal, queryRefusal, viewRefusal, stateRefusal, lentRefusal, firstRefusal, outcome}
+
+-- Numbers in checking order.
+
+-- each is 0
+abbrev pub Passed : List ℕ → Type 0
+Passed [] = Unit {0}
+Passed (n ∷ l) = (n ≡ 0) × Passed l
+
+pub first-at : (passed rest : List ℕ) (n : ℕ) → Passed passed → eqb n 0 ≡ false → firstRefusal (passed ++ n ∷ rest) ≡ n
+unfolding firstRefusal
+first-at [] rest n p e = rw e
+first-at (m ∷ passed) rest n p e = rw (p .0) (first-at passed rest n (p .1) e)
+
+pub first-none : (numbers : List ℕ) → Passed numbers → firstRefusal numbers ≡ 0
+unfolding firstRefusal
+first-none [] p = refl
+first-none (n ∷ l) p = rw (p .0) (first-none l (p .1))
+
+pub first-passed : (numbers : List ℕ) → firstRefusal numbers ≡ 0 → Passed numbers
+unfolding firstRefusal
+first-passed [] e = tt
+first-passed (n ∷ l) e = pick (eqb n 0) refl e (first-passed l)
+  where
+    pick : (b : Bool) → eqb n 0 ≡ b → cond b (firstRefusal l) n ≡ 0 → (firstRefusal l ≡ 0 → Passed l) → Passed (n ∷ l)
+    pick true q e rest = (eqb-true n 0 q, rest e)
+    pick false q e rest = absurd (false≢true (sym q ∙ eq-eqb n 0 e))
+
+-- n is the number m of a check that does not accept
+abbrev pub Turned : ℕ → ℕ → Type 0
+Turned n m = (n ≡ m) × (eqb m 0 ≡ false)
+
+module _ {A : Type 0} (refused : ℕ → A) (answer : A) where
+  -- a number that is not 0, where those before it are
+  pub refused-at : (passed rest : List ℕ) {n m : ℕ} → Passed passed → Turned n m → refused n ≡ outcome refused (passed ++ m ∷ rest) answer
+  unfolding outcome
+  refused-at passed rest {n} {m} p t = rw (t .0, first-at passed rest m p (t .1), t .1)
+
+  pub answered-at : (numbers : List ℕ) → Passed numbers → answer ≡ outcome refused numbers answer
+  unfolding outcome
+  answered-at numbers p = rw (first-none numbers p)
+
+  pub outcome-refused : (numbers : List ℕ) → (firstRefusal numbers ≡ 0 → ⊥) → outcome refused numbers answer ≡ refused (firstRefusal numbers)
+  unfolding outcome
+  outcome-refused numbers n = rw (ne-eqb (firstRefusal numbers) 0 n)
+
+  pub outcome-answered : (numbers : List ℕ) → firstRefusal numbers ≡ 0 → outcome refused numbers answer ≡ answer
+  unfolding outcome
+  outcome-answered numbers e = rw e
+
+  -- what holds of every refusal, and of the answer where nothing is refused
+  pub outcome-is : (X : A → Type 0) (numbers : List ℕ) → ((n : ℕ) → X (refused n)) → (Passed numbers → X answer) → X (outcome refused numbers answer)
+  unfolding outcome
+  outcome-is X numbers r a = pick (eqb (firstRefusal numbers) 0) refl
+    where
+      pick : (b : Bool) → eqb (firstRefusal numbers) 0 ≡ b → X (cond b answer (refused (firstRefusal numbers)))
+      pick true e = a (first-passed numbers (eqb-true _ _ e))
+      pick false e = r (firstRefusal numbers)
+
+-- The number of each check.
+
+none-of-four : OneOf (1 ∷ 2 ∷ 3 ∷ 4 ∷ []) 0 → ⊥
+none-of-four t = ⊎-elim (λ e. omega arith) (⊎-elim (λ e. omega arith) (⊎-elim (λ e. omega arith) (λ e. omega arith))) t
+
+schema-not-accepted : (a : SchemaAnswer) → OneOf (1 ∷ 2 ∷ []) (tagOf Schema.the-type a) → eqb (schemaNumber a) 0 ≡ false
+schema-not-accepted (of-schema.Accepted s) t = absurd (⊎-elim (λ e. omega arith) (λ e. omega arith) t)
+schema-not-accepted of-schema.BadShape t = refl
+schema-not-accepted of-schema.BadAxiom t = refl
+
+concept-not-accepted : (a : ConceptAnswer) → OneOf (1 ∷ 2 ∷ 3 ∷ 4 ∷ []) (tagOf Concept.the-type a) → eqb (conceptNumber a) 0 ≡ false
+concept-not-accepted of-concept.Accepted t = absurd (none-of-four t)
+concept-not-accepted of-concept.BadShape t = refl
+concept-not-accepted of-concept.BadToken t = refl
+concept-not-accepted of-concept.BadPile t = refl
+concept-not-accepted of-concept.BadSteps t = refl
+
+state-not-accepted : (a : StateAnswer) → OneOf (1 ∷ 2 ∷ 3 ∷ 4 ∷ []) (tagOf State.the-type a) → eqb (stateNumber a) 0 ≡ false
+state-not-accepted of-state.Accepted t = absurd (none-of-four t)
+state-not-accepted of-state.BadShape t = refl
+state-not-accepted of-state.BadFact t = refl
+state-not-accepted of-state.BadOrder t = refl
+state-not-accepted of-state.BadConstants t = refl
+
+-- What an entry returns of a check that does not accept: by the answer's number, the answer, and that it is not "accepted".
+module _ (schema : List ℕ) where
+  pub schema-turned : {n : ℕ} {a : SchemaAnswer} → n ≡ schemaNumber a → a ≡ schemaAnswer schema → OneOf (1 ∷ 2 ∷ []) (tagOf Schema.the-type a)
+      → Turned n (schemaRefusal schema)
+  schema-turned {a = a} e q t = (e ∙ ap schemaNumber q, rw q at (schema-not-accepted a t))
+
+  module _ (w : List ℕ) {s : Signature} (z : s ≡ signatureOf schema) where
+    pub concept-turned : (limit : ℕ) {n : ℕ} {a : ConceptAnswer} → n ≡ conceptNumber a → a ≡ conceptAnswer limit s w
+        → OneOf (1 ∷ 2 ∷ 3 ∷ 4 ∷ []) (tagOf Concept.the-type a) → Turned n (conceptNumber (conceptAnswer limit (signatureOf schema) w))
+    concept-turned limit {a = a} e q t = (rw (e, q, z), rw (q, z) at (concept-not-accepted a t))
+
+    pub state-turned : {n : ℕ} {a : StateAnswer} → n ≡ stateNumber a → a ≡ stateAnswer s w
+        → OneOf (1 ∷ 2 ∷ 3 ∷ 4 ∷ []) (tagOf State.the-type a) → Turned n (stateRefusal schema w)
+    state-turned {a = a} e q t = (rw (e, q, z), rw (q, z) at (state-not-accepted a t))
+
+pub lent-turned : (needed : ℕ) (lent : List ℕ) → length lent < needed → Turned 11 (lentRefusal needed lent)
+unfolding refusal-11
+lent-turned needed lent h = rw (lt-ltb (length lent) needed h) (refl, refl)
+
+-- A number of 0 is that of an accepted record.
+
+module _ (schema : List ℕ) where
+  -- what an accepted schema's answer holds
+  pub schema-signature : (s : Signature) → schemaAnswer schema ≡ of-schema.Accepted s → (s ≡ signatureOf schema) × AcceptedSchema schema
+  unfolding schemaAnswer
+  schema-signature s e = pick (refusal-1 schema) (refusal-2 schema) e
+    where
+      pick : (a b : Bool) → cond a of-schema.BadShape (cond b of-schema.BadAxiom (of-schema.Accepted (signatureOf schema))) ≡ of-schema.Accepted s
+          → (s ≡ signatureOf schema) × (cond a of-schema.BadShape (cond b of-schema.BadAxiom (of-schema.Accepted (signatureOf schema))) ≡ of-schema.Accepted (signatureOf schema))
+      pick true b h = (cc, cc)
+      pick false true h = (cc, cc)
+      pick false false h = (cc, refl)
+
+  pub schema-passed : AcceptedSchema schema → schemaRefusal schema ≡ 0
+  schema-passed ok = ap schemaNumber ok
+
+  pub passed-schema : schemaRefusal schema ≡ 0 → AcceptedSchema schema
+  unfolding schemaAnswer
+  passed-schema e = pick (refusal-1 schema) (refusal-2 schema) e
+    where
+      pick : (a b : Bool) → schemaNumber (cond a of-schema.BadShape (cond b of-schema.BadAxiom (of-schema.Accepted (signatureOf schema)))) ≡ 0
+          → cond a of-schema.BadShape (cond b of-schema.BadAxiom (of-schema.Accepted (signatureOf schema))) ≡ of-schema.Accepted (signatureOf schema)
+      pick true b h = absurd (omega arith)
+      pick false true h = absurd (omega arith)
+      pick false false h = refl
+
+  pub query-passed : (query : List ℕ) → AcceptedConcept querySteps (signatureOf schema) query → queryRefusal schema query ≡ 0
+  query-passed query ok = ap conceptNumber ok
+
+  pub view-passed : (view : List ℕ) → AcceptedConcept viewSteps (signatureOf schema) view → viewRefusal schema view ≡ 0
+  view-passed view ok = ap conceptNumber ok
+
+  pub state-passed : (state : List ℕ) → AcceptedState (signatureOf schema) state → stateRefusal schema state ≡ 0
+  state-passed state ok = ap stateNumber ok
+
+accepted-concept : (a : ConceptAnswer) → conceptNumber a ≡ 0 → a ≡ of-concept.Accepted
+accepted-concept of-concept.Accepted e = refl
+accepted-concept of-concept.BadShape e = absurd (omega arith)
+accepted-concept of-concept.BadToken e = absurd (omega arith)
+accepted-concept of-concept.BadPile e = absurd (omega arith)
+accepted-concept of-concept.BadSteps e = absurd (omega arith)
+
+module _ (schema : List ℕ) where
+  pub passed-query : (query : List ℕ) → queryRefusal schema query ≡ 0 → AcceptedConcept querySteps (signatureOf schema) query
+  passed-query query e = accepted-concept _ e
+
+  pub passed-view : (view : List ℕ) → viewRefusal schema view ≡ 0 → AcceptedConcept viewSteps (signatureOf schema) view
+  passed-view view e = accepted-concept _ e
+
+  pub passed-state : (state : List ℕ) → stateRefusal schema state ≡ 0 → AcceptedState (signatureOf schema) state
+  passed-state state e = pick _ e
+    where
+      pick : (a : StateAnswer) → stateNumber a ≡ 0 → a ≡ of-state.Accepted
+      pick of-state.Accepted e = refl
+      pick of-state.BadShape e = absurd (omega arith)
+      pick of-state.BadFact e = absurd (omega arith)
+      pick of-state.BadOrder e = absurd (omega arith)
+      pick of-state.BadConstants e = absurd (omega arith)
+
+pub lent-passed : (needed : ℕ) (lent : List ℕ) → needed ≤ length lent → lentRefusal needed lent ≡ 0
+unfolding refusal-11
+lent-passed needed lent h = rw (le-ltb (length lent) needed h)
+
+pub passed-lent : (needed : ℕ) (lent : List ℕ) → lentRefusal needed lent ≡ 0 → needed ≤ length lent
+unfolding refusal-11
+passed-lent needed lent e = ltb-false (length lent) needed (pick (refusal-11 needed lent) e)
+  where
+    pick : (b : Bool) → _≡_ {A = ℕ} (cond b 11 0) 0 → b ≡ false
+    pick true e = absurd (omega arith)
+    pick false e = refl

@@ -1,0 +1,33 @@
+-- Document 01, "Turned back": records are checked in the order schema, query (or concept), view, state, lent words. A call is
+-- refused by the first refusal that applies, and otherwise answered. Numbers are the paper's, 0 for what is accepted.
+use Prim.Native.Nat.{ℕ}
+use mathlib.Core.List.{List, [], _∷_}
+use mathlib.Core.Bool.{cond}
+use lib.Dec.{eqb}
+use Rattle.records.specs.Layout.{querySteps, viewSteps}
+use Rattle.records.specs.SchemaRecord.{signatureOf}
+use Rattle.records.specs.Refusal.{schemaAnswer, schemaNumber, conceptAnswer, conceptNumber, stateAnswer, stateNumber, refusal-11}
+
+abbrev pub schemaRefusal : List ℕ → ℕ
+schemaRefusal schema = schemaNumber (schemaAnswer schema)
+
+abbrev pub queryRefusal : List ℕ → List ℕ → ℕ
+queryRefusal schema query = conceptNumber (conceptAnswer querySteps (signatureOf schema) query)
+
+abbrev pub viewRefusal : List ℕ → List ℕ → ℕ
+viewRefusal schema view = conceptNumber (conceptAnswer viewSteps (signatureOf schema) view)
+
+abbrev pub stateRefusal : List ℕ → List ℕ → ℕ
+stateRefusal schema state = stateNumber (stateAnswer (signatureOf schema) state)
+
+abbrev pub lentRefusal : ℕ → List ℕ → ℕ
+lentRefusal needed lent = cond (refusal-11 needed lent) 11 0
+
+-- the first number that is not 0, of numbers in checking order
+unfoldable pub firstRefusal : List ℕ → ℕ
+firstRefusal [] = 0
+firstRefusal (n ∷ l) = cond (eqb n 0) (firstRefusal l) n
+
+-- what a call comes to: refused by that number, and answered where there is none
+unfoldable pub outcome : {A : Type 0} → (ℕ → A) → List ℕ → A → A
+outcome refused numbers answer = cond (eqb (firstRefusal numbers) 0) answer (refused (firstRefusal numbers))
