@@ -9,6 +9,7 @@ use records::concept::check_view;
 use records::schema::SchemaAnswer;
 use records::schema::check_schema;
 use records::state::MAX_FACTS;
+use records::state::STATE_WORDS;
 use writing::write;
 ghost use mathlib.Core.Path.{_≡_};
 ghost use Prim.Native.Nat.{_≤_};
@@ -19,9 +20,6 @@ ghost use Rattle.chase.specs.Task.{taskOf};
 ghost use Rattle.chase.specs.Written.{stateRecord};
 ghost use Rattle.decide.specs.Decision.{Verdict, Decision};
 ghost use Rattle.construct.specs.Listed.{Triple, Candidate};
-
-// The words of a state record with the most facts: two sizes, and a left and a right word for each.
-pub const STATE_WORDS: usize = 2 + 2 * MAX_FACTS;
 
 pub enum DecideAnswer {
     Held,

@@ -15,6 +15,8 @@ ghost use Rattle.records.specs.Refusal.{suits as suitsIn, refusal-3, fau
 ghost use Rattle.records.specs.Scan.{putSort, joinSorts, reachSort, pushSort, isConceptSort};
 
 pub const MAX_TOKENS: usize = 64;
+// Tokens, steps.
+pub const CONCEPT_SIZES: usize = 2;
 
 // The roles of a concept, with the most steps that each may have.
 pub struct Query;
@@ -69,7 +71,7 @@ pub fn concept_layout() -> Layout
     ensures { λ r. ⌜ IsLayout conceptLayout r ⌝ }
 {
     Layout {
-        sizes: 2,
+        sizes: CONCEPT_SIZES,
         counter: 0,
     }
 }

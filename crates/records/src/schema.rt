@@ -19,6 +19,8 @@ pub const MAX_ATTRIBUTES: usize = 8;
 pub const MAX_CONSTANTS: usize = 4;
 
 pub const MAX_AXIOMS: usize = 96;
+// Classes, attributes, constants, axioms.
+pub const SCHEMA_SIZES: usize = 4;
 // A word of two parts is the first times this plus the second.
 const BYTE_PART: usize = 256;
 
@@ -66,7 +68,7 @@ pub fn schema_layout() -> Layout
     ensures { λ r. ⌜ IsLayout schemaLayout r ⌝ }
 {
     Layout {
-        sizes: 4,
+        sizes: SCHEMA_SIZES,
         counter: 3,
     }
 }

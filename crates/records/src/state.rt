@@ -18,6 +18,10 @@ ghost use Rattle.records.specs.Scan.{followsAt, slotOf, repeatsIn, misna
 pub const MAX_OBJECTS: usize = 480;
 
 pub const MAX_FACTS: usize = 15_380;
+// Objects, facts.
+pub const STATE_SIZES: usize = 2;
+// The most words of an accepted record.
+pub const STATE_WORDS: usize = STATE_SIZES + 2 * MAX_FACTS;
 // A fact's left word is its kind times this plus its object.
 pub const OBJECT_PART: usize = 512;
 // The first kind of attributes, the first of constants, and one past the last.
@@ -56,7 +60,7 @@ pub fn state_layout() -> Layout
     ensures { λ r. ⌜ IsLayout stateLayout r ⌝ }
 {
     Layout {
-        sizes: 2,
+        sizes: STATE_SIZES,
         counter: 1,
     }
 }

@@ -1,11 +1,12 @@
 // Decides the triples of data/triples.bin and prints a line for each: its place, the verdict, and of an open one what the
 // counterexample check says of the state. tests/triples.py has the triples and what the papers say of each.
 use decide::DecideAnswer;
-use decide::STATE_WORDS;
 use decide::decide;
 use judge::counterexample::CounterexampleAnswer;
 use judge::counterexample::counterexample;
 use records::layout::word;
+use records::state::STATE_SIZES;
+use records::state::STATE_WORDS;
 use records::state::facts;
 
 const WORDS: usize = 16_384;
@@ -18,7 +19,7 @@ fn print(text: &[u8]) {
 
 // Whether the check finds the object that decide named.
 fn report_state(schema: &[u16], query: &[u16], view: &[u16], lent: &[u16], object: usize) {
-    let n = 2 + 2 * facts(lent);
+    let n = STATE_SIZES + 2 * facts(lent);
     if lent.len() < n {
         return;
     }
