@@ -14,6 +14,7 @@ from words import (BACKWARD, BOTH, CLASS, COMMON, CONSTANT, EMPTY, EVERYTHING, F
 ROOT = pathlib.Path(__file__).resolve().parent.parent
 CRATE = ROOT / "crates" / "triples"
 PROGRAM = ROOT / "crates" / "bikuvoa"
+PROGRAM_OPEN = ROOT / "crates" / "bikuvoa_open"
 
 # Classes and attributes of the small triples.
 A, B, C = range(3)
@@ -130,6 +131,12 @@ TRIPLES = [
 ]
 
 
+# A stored run with an open answer: A needs P, and an object of A need not be in B. The papers leave the state free; this one has
+# the object and the closing object, which is in every class and is its own value.
+OPEN_RUN = (schema(2, 1, 0, [needs(A, P)]), concept(is_a(A)), concept(is_a(B)))
+OPEN_LINES = b"OPEN 2 0\n0 0\n1 0\n513 0\n12288 1\n12289 1\n"
+
+
 def files(folder, schema_words, query, view):
     """The three files that the program reads."""
     return {folder / f"{name}.bin": words(record) for name, record in (("schema", schema_words), ("query", query), ("view", view))}
@@ -147,7 +154,9 @@ def made():
     return {
         CRATE / "data" / "triples.bin": data, CRATE / "stdout": lines.encode(),
         **files(PROGRAM / "data", *first), PROGRAM / "stdout": b"HELD\n",
+        **files(PROGRAM_OPEN / "data", *OPEN_RUN), PROGRAM_OPEN / "stdout": OPEN_LINES,
         **files(ROOT / "example", CLUB, concept(ROWERS), concept(RECORDED)),
+        **files(ROOT / "example" / "reversed", CLUB, concept(RECORDED), concept(ROWERS)),
     }
 
 

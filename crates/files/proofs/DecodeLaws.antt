@@ -1,13 +1,16 @@
 -- A loop that puts the words of the bytes one after the other at the start of a list.
-use Prim.Native.Nat.{ℕ, _+_, _≤_, _<_}
+use Prim.Native.Nat.{ℕ, _+_, _/_, _%_, _≤_, _<_}
 use mathlib.Core.List.{List}
 use mathlib.Core.Path.{_≡_, refl, _∙_, subst, sym}
 use mathlib.Core.Logic.{⊎-elim}
+use mathlib.Core.Bool.{Bool, true, false, cond}
+use lib.Dec.{eqb, ltb}
+use borrow.Author.Tests.{ltb-false}
 use native.Mathlib.Nat.{eq-or-lt-of-le}
 use native.Mathlib.Omega.{arith}
 use lib.ListN.{length, getD, set, length-set}
 use lib.Seq.{getD-set-same, getD-set-other}
-use Rattle.files.specs.Bytes.{wordAt}
+use Rattle.files.specs.Bytes.{wordAt, wordsOf, Decoded}
 
 -- the first i words are read, the others are as before
 pub record Filled (bytes before : List ℕ) (i : ℕ) (now : List ℕ) : Type 0 where
@@ -32,3 +35,15 @@ module _ (bytes before : List ℕ) where
 
       here : (k : ℕ) → k ≡ i → getD (set now i v) k 0 ≡ wordAt bytes k
       here k q = subst (λ (j : ℕ). getD (set now i v) j 0 ≡ wordAt bytes j) (sym q) (getD-set-same now i v 0 (omega (arith, f .kept)) ∙ e)
+
+-- as many words as the bytes give have room
+words-fit : (bytes room : ℕ) → wordsOf bytes room ≤ room
+words-fit bytes room = even (eqb (bytes % 2) 0) (ltb room (bytes / 2)) refl
+  where
+    even : (a b : Bool) → ltb room (bytes / 2) ≡ b → cond a (cond b 0 (bytes / 2)) 0 ≤ room
+    even true true e = omega arith
+    even true false e = ltb-false room (bytes / 2) e
+    even false b e = omega arith
+
+pub decoded-fits : {bytes before : List ℕ} {n : ℕ} {after : List ℕ} → Decoded bytes before n after → n ≤ length after
+decoded-fits {bytes} {before} d = omega (arith, d .size, d .kept, words-fit (length bytes) (length before))

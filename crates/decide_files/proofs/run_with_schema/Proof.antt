@@ -2,8 +2,8 @@
 use borrow.Author.Needs.{needs}
 use lib.Seq.{length-take-le}
 use mathlib.Core.Path.{sym}
-use Rattle.bikuvoa.proofs.run_with_schema.Statement.{statement}
-use Rattle.bikuvoa.proofs.run_with_schema.Tie as tie
+use Rattle.decide_files.proofs.run_with_schema.Statement.{statement}
+use Rattle.decide_files.proofs.run_with_schema.Tie as tie
 
 slice-aggregate-load : tie.Need-slice-aggregate-load
 slice-aggregate-load c = search needs
@@ -18,7 +18,7 @@ array-share-prefix-query : tie.Need-array-share-prefix-query
 array-share-prefix-query c = search needs
 
 slice-aggregate-run-with-query : tie.Need-slice-aggregate-run-with-query
-slice-aggregate-run-with-query c = sym (length-take-le (c .before .before .before .before .load .result) (c .before .before .before .before .load .last .1 .1 .0) (c .before .before .before .before .load .ensures))
+slice-aggregate-run-with-query c = sym (length-take-le (c .before .before .before .before .load .result) (c .before .before .before .before .load .last .1 .1 .0) (c .before .before .before .before .load .ensures .0))
 
 run-with-query-requires : tie.Need-run-with-query-requires
 run-with-query-requires c κs = tt

@@ -2,8 +2,8 @@
 use borrow.Author.Needs.{needs}
 use lib.Seq.{length-take-le}
 use mathlib.Core.Path.{sym}
-use Rattle.bikuvoa.proofs.run_with_query.Statement.{statement}
-use Rattle.bikuvoa.proofs.run_with_query.Tie as tie
+use Rattle.decide_files.proofs.run_with_query.Statement.{statement}
+use Rattle.decide_files.proofs.run_with_query.Tie as tie
 
 slice-aggregate-load : tie.Need-slice-aggregate-load
 slice-aggregate-load c = search needs
@@ -18,7 +18,7 @@ array-share-prefix-view : tie.Need-array-share-prefix-view
 array-share-prefix-view c = search needs
 
 slice-aggregate-run : tie.Need-slice-aggregate-run
-slice-aggregate-run c = sym (length-take-le (c .before .before .before .before .load .result) (c .before .before .before .before .load .last .1 .1 .0) (c .before .before .before .before .load .ensures))
+slice-aggregate-run c = sym (length-take-le (c .before .before .before .before .load .result) (c .before .before .before .before .load .last .1 .1 .0) (c .before .before .before .before .load .ensures .0))
 
 run-requires : tie.Need-run-requires
 run-requires c κs = tt

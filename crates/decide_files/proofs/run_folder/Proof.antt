@@ -2,8 +2,8 @@
 use borrow.Author.Needs.{needs}
 use lib.Seq.{length-take-le}
 use mathlib.Core.Path.{sym}
-use Rattle.bikuvoa.proofs.main.Statement.{statement}
-use Rattle.bikuvoa.proofs.main.Tie as tie
+use Rattle.decide_files.proofs.run_folder.Statement.{statement}
+use Rattle.decide_files.proofs.run_folder.Tie as tie
 
 slice-aggregate-load : tie.Need-slice-aggregate-load
 slice-aggregate-load c = search needs
@@ -21,7 +21,7 @@ array-share-prefix-schema : tie.Need-array-share-prefix-schema
 array-share-prefix-schema c = search needs
 
 slice-aggregate-run-with-schema : tie.Need-slice-aggregate-run-with-schema
-slice-aggregate-run-with-schema c = sym (length-take-le (c .before .before .before .load .result) (c .before .before .before .load .last .1 .1 .0) (c .before .before .before .load .ensures))
+slice-aggregate-run-with-schema c = sym (length-take-le (c .before .before .before .load .result) (c .before .before .before .load .last .1 .1 .0) (c .before .before .before .load .ensures .0))
 
 slice-aggregate-run-with-schema-2 : tie.Need-slice-aggregate-run-with-schema-2
 slice-aggregate-run-with-schema-2 c = search needs
@@ -32,8 +32,8 @@ run-with-schema-requires c κs = tt
 returns : tie.Need-returns
 returns c = search needs
 
-pub main-spec : {M : Type 1} → statement M
-main-spec =
+pub run-folder-spec : {M : Type 1} → statement M
+run-folder-spec =
     tie.close
     (tie.spec
     slice-aggregate-load
