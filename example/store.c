@@ -1,0 +1,218 @@
+/* A store that reads queries from stored lists. It keeps views, narrow ones first, each with the list of its objects. A query
+ * is read from the first list that is sure to have all its objects, and filtered unless the list is sure to have no others.
+ * With target/staticlib built:
+ *
+ *   cc -Iinclude example/store.c target/staticlib/libbikuvoa_c.a -o store && ./store */
+#include "bikuvoa.h"
+#include <stdio.h>
+#include <string.h>
+
+enum { PERSON, ROWER, STRAP, SESSION, BEAT, CLASSES };
+enum { WEARS, RECORDS, DURING, ATTENDS, ATTRIBUTES };
+enum { AXIOMS = 10, TOKENS = 12, OBJECTS = 8, FACTS = 20, VIEWS = 3 };
+
+typedef struct {
+    const char *name;
+    bikuvoa_concept is;
+    uint16_t words[BIKUVOA_CONCEPT_WORDS(TOKENS)];
+    uint16_t list[OBJECTS]; /* 1 for each object in the view */
+} View;
+
+typedef struct {
+    const char *name;
+    bikuvoa_concept is;
+    uint16_t words[BIKUVOA_CONCEPT_WORDS(TOKENS)];
+    int (*has)(size_t object); /* the store's own look at one object */
+} Query;
+
+static uint16_t schema_words[BIKUVOA_SCHEMA_WORDS(AXIOMS)], state_words[BIKUVOA_STATE_WORDS(FACTS)];
+static bikuvoa_schema schema;
+static bikuvoa_state state;
+static View views[VIEWS];
+
+/* A change is kept only if every axiom holds after it, since HELD speaks of legal states. Then the lists are made anew. */
+static void change(const char *what, bikuvoa_state changed)
+{
+    uint64_t broken = 0, selected;
+    uint16_t refusal = bikuvoa_legal(schema.words, schema.length, changed.words, changed.length, &broken);
+    if (refusal) {
+        printf("%s: refused, %s\n", what, bikuvoa_refusal_text(refusal));
+        return;
+    }
+    if (broken) {
+        printf("%s: not kept, it breaks axiom %d\n", what, (int)broken - 1);
+        return;
+    }
+    memcpy(state_words, changed.words, changed.length * sizeof *state_words);
+    state.length = changed.length;
+    for (View *v = views; v < views + VIEWS; v++)
+        bikuvoa_select(schema.words, schema.length, v->is.words, v->is.length, state.words, state.length, v->list, OBJECTS,
+                       &selected);
+    printf("%s: kept\n", what);
+}
+
+/* The verdict depends on the schema alone and not on the data: a larger store finds it once for each query. */
+static enum bikuvoa_verdict decide(bikuvoa_concept query, bikuvoa_concept view)
+{
+    static uint16_t lent[BIKUVOA_DECIDE_WORDS];
+    uint64_t objects, object;
+    uint16_t returned = bikuvoa_decide(schema.words, schema.length, query.words, query.length, view.words, view.length, lent,
+                                       BIKUVOA_DECIDE_WORDS, &objects, &object);
+    return bikuvoa_verdict_of(returned, &objects);
+}
+
+static void answer(const Query *query)
+{
+    const View *from = NULL;
+    int exact, looks = 0;
+    for (int i = 0; i < VIEWS && !from; i++)
+        if (decide(query->is, views[i].is) == BIKUVOA_HELD) from = &views[i];
+    exact = from && decide(from->is, query->is) == BIKUVOA_HELD;
+    printf("%s:", query->name);
+    for (size_t object = 0; object < OBJECTS; object++) {
+        if (from && !from->list[object]) continue;
+        looks += !exact;
+        if (exact || query->has(object)) printf(" %zu", object);
+    }
+    printf(" (from %s, looking at %d)\n", from ? from->name : "all objects", looks);
+}
+
+/* What the store holds: the rowing club, as in example/club.c. */
+static void make_schema(void)
+{
+    schema = bikuvoa_start_schema(schema_words, BIKUVOA_SCHEMA_WORDS(AXIOMS), CLASSES, ATTRIBUTES, 0);
+    bikuvoa_subclass(&schema, ROWER, PERSON);
+    bikuvoa_necessary(&schema, ROWER, WEARS);
+    bikuvoa_single(&schema, PERSON, WEARS);
+    bikuvoa_relates(&schema, WEARS, PERSON, STRAP);
+    bikuvoa_necessary(&schema, STRAP, RECORDS);
+    bikuvoa_relates(&schema, RECORDS, STRAP, BEAT);
+    bikuvoa_necessary(&schema, BEAT, DURING);
+    bikuvoa_single(&schema, BEAT, DURING);
+    bikuvoa_relates(&schema, DURING, BEAT, SESSION);
+    bikuvoa_relates(&schema, ATTENDS, PERSON, SESSION);
+    state = bikuvoa_start_state(state_words, BIKUVOA_STATE_WORDS(FACTS), OBJECTS);
+}
+
+static void step(bikuvoa_concept *c, size_t attribute, size_t landing)
+{
+    bikuvoa_class(c, landing);
+    bikuvoa_forward(c, attribute);
+}
+
+static bikuvoa_concept *start_view(View *view, const char *name)
+{
+    view->name = name;
+    view->is = bikuvoa_start_concept(view->words, BIKUVOA_CONCEPT_WORDS(TOKENS));
+    return &view->is;
+}
+
+static void make_views(void)
+{
+    bikuvoa_concept *c = start_view(&views[0], "the rowers");
+    bikuvoa_class(c, ROWER);
+
+    c = start_view(&views[1], "the wearers");
+    bikuvoa_empty(c);
+    step(c, WEARS, STRAP);
+    bikuvoa_reached(c);
+
+    c = start_view(&views[2], "the persons");
+    bikuvoa_class(c, PERSON);
+}
+
+/* Rower 0 and person 1 wear straps 3 and 4, which have recorded beats 5 and 6 of session 7; 0 and person 2 attend it. Then
+ * person 2 is to be a rower, but wears nothing. */
+static void make_changes(void)
+{
+    uint16_t words[BIKUVOA_STATE_WORDS(FACTS)];
+    bikuvoa_state next = bikuvoa_start_state(words, BIKUVOA_STATE_WORDS(FACTS), OBJECTS);
+    for (size_t i = 0; i < 3; i++) bikuvoa_member(&next, PERSON, i);
+    bikuvoa_member(&next, ROWER, 0);
+    for (size_t i = 0; i < 2; i++) {
+        bikuvoa_member(&next, STRAP, 3 + i);
+        bikuvoa_member(&next, BEAT, 5 + i);
+        bikuvoa_pair(&next, WEARS, i, 3 + i);
+        bikuvoa_pair(&next, RECORDS, 3 + i, 5 + i);
+        bikuvoa_pair(&next, DURING, 5 + i, 7);
+    }
+    bikuvoa_member(&next, SESSION, 7);
+    bikuvoa_pair(&next, ATTENDS, 0, 7);
+    bikuvoa_pair(&next, ATTENDS, 2, 7);
+    change("a season", next);
+    bikuvoa_member(&next, ROWER, 2);
+    change("a rower without a strap", next);
+}
+
+static int is(size_t kind, size_t object)
+{
+    for (size_t i = 0; i < bikuvoa_facts(state.words); i++)
+        if (bikuvoa_fact_kind(state.words, i) == kind && bikuvoa_fact_object(state.words, i) == object) return 1;
+    return 0;
+}
+
+static int is_strap(size_t object)
+{
+    return is(STRAP, object);
+}
+
+static int attends(size_t object)
+{
+    return is(BIKUVOA_ATTRIBUTE_KINDS + ATTENDS, object);
+}
+
+static int attends_as_rower(size_t object)
+{
+    return is(ROWER, object) && attends(object);
+}
+
+/* In a legal state every worn strap has recorded a beat of a session. */
+static int is_recorded(size_t object)
+{
+    return is(BIKUVOA_ATTRIBUTE_KINDS + WEARS, object);
+}
+
+static bikuvoa_concept *start_query(Query *query, const char *name, int (*has)(size_t))
+{
+    query->name = name;
+    query->has = has;
+    query->is = bikuvoa_start_concept(query->words, BIKUVOA_CONCEPT_WORDS(TOKENS));
+    return &query->is;
+}
+
+int main(void)
+{
+    Query query;
+    bikuvoa_concept *c;
+    make_schema();
+    make_views();
+    make_changes();
+
+    c = start_query(&query, "rowers who attend a session", attends_as_rower);
+    bikuvoa_class(c, ROWER);
+    bikuvoa_empty(c);
+    step(c, ATTENDS, SESSION);
+    bikuvoa_reached(c);
+    bikuvoa_both(c);
+    answer(&query);
+
+    c = start_query(&query, "who attends a session", attends);
+    bikuvoa_empty(c);
+    step(c, ATTENDS, SESSION);
+    bikuvoa_reached(c);
+    answer(&query);
+
+    /* Under this schema just those who wear a strap: their list is read as it is. */
+    c = start_query(&query, "whose strap has recorded a beat of a session", is_recorded);
+    bikuvoa_empty(c);
+    step(c, WEARS, STRAP);
+    step(c, RECORDS, BEAT);
+    step(c, DURING, SESSION);
+    bikuvoa_reached(c);
+    answer(&query);
+
+    c = start_query(&query, "straps", is_strap);
+    bikuvoa_class(c, STRAP);
+    answer(&query);
+    return 0;
+}

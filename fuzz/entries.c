@@ -1,0 +1,361 @@
+/* A libFuzzer target over the four entries. An input is read as records of arbitrary words, or as instructions for records
+ * that are mostly accepted, which may then be damaged. Every record and all lent words end at a page that cannot be touched.
+ * What the entries promise of each other is checked: see check_*.
+ *
+ *   clang -g -O1 -fsanitize=fuzzer -Iinclude fuzz/entries.c target/staticlib/libbikuvoa_c.a -o fuzz_entries
+ *
+ * With -DSTANDALONE and any compiler it has a main of its own, which makes the number of inputs that it is given. */
+#define _DEFAULT_SOURCE
+#include "bikuvoa.h"
+#include <stdio.h>
+#include <stdlib.h>
+#include <string.h>
+#include <sys/mman.h>
+#include <unistd.h>
+
+#define UNTOUCHED_BYTE 0xBE
+#define UNTOUCHED 0xBEBE
+#define UNTOUCHED_OUT 0xBEBEBEBE
+
+int LLVMFuzzerTestOneInput(const uint8_t *data, size_t size);
+
+/* How many calls of decide had each verdict. */
+static unsigned long verdicts[4];
+
+#define CHECK(ok) ((ok) ? (void)0 : fail(#ok, __LINE__))
+
+static void fail(const char *what, int line)
+{
+    fprintf(stderr, "failed, line %d: %s\n", line, what);
+    abort();
+}
+
+/* Words that end where a page begins that can be neither read nor written. */
+
+enum { SCHEMA, QUERY, VIEW, STATE, LENT, WRITTEN, PLACES };
+#define FENCED_WORDS 81920 /* more than a size word can say, and whole pages */
+
+typedef struct {
+    uint16_t *at;
+    size_t words;
+} Words;
+
+static Words fenced(int place, size_t words)
+{
+    static uint16_t *ends[PLACES];
+    size_t bytes = FENCED_WORDS * sizeof(uint16_t), page = (size_t)sysconf(_SC_PAGESIZE);
+    Words w;
+    if (!ends[place]) {
+        unsigned char *area = mmap(NULL, bytes + page, PROT_READ | PROT_WRITE, MAP_PRIVATE | MAP_ANONYMOUS, -1, 0);
+        CHECK(area != MAP_FAILED && mprotect(area + bytes, page, PROT_NONE) == 0);
+        ends[place] = (uint16_t *)(void *)(area + bytes);
+    }
+    CHECK(words <= FENCED_WORDS);
+    w.at = ends[place] - words;
+    w.words = words;
+    return w;
+}
+
+static Words copied(int place, const uint16_t *words, size_t n)
+{
+    Words w = fenced(place, n);
+    if (n) memcpy(w.at, words, n * sizeof *words);
+    return w;
+}
+
+static Words lent(size_t n)
+{
+    Words w = fenced(LENT, n);
+    memset(w.at, UNTOUCHED_BYTE, n * sizeof *w.at);
+    return w;
+}
+
+static int untouched(Words w, size_t from)
+{
+    const uint16_t *rest = w.at + from;
+    size_t n = w.words - from;
+    return n == 0 || (rest[0] == UNTOUCHED && memcmp(rest, rest + 1, (n - 1) * sizeof *rest) == 0);
+}
+
+/* The input, byte by byte; 0 after its end. */
+
+typedef struct {
+    const uint8_t *at;
+    size_t left;
+} Input;
+
+static size_t byte(Input *in)
+{
+    if (!in->left) return 0;
+    in->left--;
+    return *in->at++;
+}
+
+static size_t below(Input *in, size_t limit)
+{
+    return limit ? byte(in) % limit : 0;
+}
+
+/* Records of arbitrary words: a length, then the words. */
+static Words arbitrary(Input *in, int place)
+{
+    Words w = fenced(place, byte(in));
+    for (size_t i = 0; i < w.words; i++) {
+        size_t low = byte(in);
+        w.at[i] = (uint16_t)(byte(in) * 256 + low);
+    }
+    return w;
+}
+
+/* Records that are mostly accepted. */
+
+typedef struct {
+    size_t classes, attributes, constants;
+} Declared;
+
+static Words built_schema(Input *in, Declared d)
+{
+    uint16_t words[BIKUVOA_MAX_SCHEMA_WORDS];
+    bikuvoa_schema s = bikuvoa_start_schema(words, BIKUVOA_MAX_SCHEMA_WORDS, d.classes, d.attributes, d.constants);
+    for (size_t n = d.classes && d.attributes ? below(in, 12) : 0; n > 0; n--) {
+        size_t kind = below(in, 5), a = below(in, d.classes), b = below(in, d.classes), p = below(in, d.attributes);
+        if (kind == 0) bikuvoa_subclass(&s, a, b);
+        if (kind == 1) bikuvoa_typing(&s, a, p, b);
+        if (kind == 2) bikuvoa_necessary(&s, a, p);
+        if (kind == 3) bikuvoa_single(&s, a, p);
+        if (kind == 4) bikuvoa_relates(&s, p, a, b);
+    }
+    return copied(SCHEMA, s.words, s.length);
+}
+
+static void put_concept(Input *in, Declared d, bikuvoa_concept *c, size_t *steps);
+
+static void put_path(Input *in, Declared d, bikuvoa_concept *c, size_t *steps)
+{
+    bikuvoa_empty(c);
+    for (size_t n = d.attributes ? below(in, 4) : 0; n > 0 && *steps > 0; n--) {
+        size_t p = below(in, 2 * d.attributes);
+        --*steps;
+        put_concept(in, d, c, steps);
+        if (p < d.attributes) bikuvoa_forward(c, p);
+        else bikuvoa_backward(c, p - d.attributes);
+    }
+}
+
+/* An input that has ended gives "everything", so that this ends. */
+static void put_concept(Input *in, Declared d, bikuvoa_concept *c, size_t *steps)
+{
+    size_t sort = in->left ? byte(in) % 8 : 0;
+    if (sort == 1 && d.constants) {
+        bikuvoa_constant(c, below(in, d.constants));
+    } else if (sort == 2) {
+        put_concept(in, d, c, steps);
+        put_concept(in, d, c, steps);
+        bikuvoa_both(c);
+    } else if (sort == 3 || sort == 4) {
+        put_path(in, d, c, steps);
+        bikuvoa_reached(c);
+    } else if (sort == 5) {
+        put_path(in, d, c, steps);
+        put_path(in, d, c, steps);
+        bikuvoa_common(c);
+    } else if (sort > 5 && d.classes) {
+        bikuvoa_class(c, below(in, d.classes));
+    } else {
+        bikuvoa_everything(c);
+    }
+}
+
+static Words built_concept(Input *in, Declared d, int place, size_t steps)
+{
+    uint16_t words[BIKUVOA_MAX_CONCEPT_WORDS];
+    bikuvoa_concept c = bikuvoa_start_concept(words, BIKUVOA_MAX_CONCEPT_WORDS);
+    Input part = {in->at, below(in, 40)};
+    if (part.left > in->left) part.left = in->left;
+    part.at = in->at;
+    in->at += part.left;
+    in->left -= part.left;
+    put_concept(&part, d, &c, &steps);
+    return copied(place, c.words, c.length);
+}
+
+static Words built_state(Input *in, Declared d)
+{
+    uint16_t words[BIKUVOA_STATE_WORDS(40)];
+    size_t n = d.constants + below(in, 8);
+    bikuvoa_state s = bikuvoa_start_state(words, BIKUVOA_STATE_WORDS(40), n);
+    for (size_t k = 0; k < d.constants; k++) bikuvoa_name(&s, k, in->left ? below(in, n) : k);
+    for (size_t facts = n ? below(in, 32) : 0; facts > 0; facts--) {
+        size_t kind = below(in, d.classes + d.attributes), object = below(in, n), second = below(in, n);
+        if (kind < d.classes) bikuvoa_member(&s, kind, object);
+        else if (d.attributes) bikuvoa_pair(&s, kind - d.classes, object, second);
+    }
+    return copied(STATE, s.words, s.length);
+}
+
+static void damage(Input *in, Words *records)
+{
+    Words *w = &records[below(in, STATE + 1)];
+    size_t way = below(in, 8);
+    if (way == 0 && w->words) w->words--;
+    else if (way == 1 && w->words) w->words--, w->at++;
+    else if (w->words) w->at[below(in, w->words)] ^= (uint16_t)(1 << below(in, 16));
+}
+
+/* What each call returned and wrote, if it was not refused. */
+
+static uint16_t selected(const Words *r, Words concept, Words state, size_t room, uint8_t *in_it)
+{
+    Words l = lent(room);
+    uint64_t count = UNTOUCHED_OUT, ones = 0;
+    uint16_t returned = bikuvoa_select(r[SCHEMA].at, r[SCHEMA].words, concept.at, concept.words, state.at, state.words, l.at,
+                                       l.words, &count);
+    if (returned) {
+        CHECK(count == UNTOUCHED_OUT && untouched(l, 0));
+        return returned;
+    }
+    size_t n = state.at[BIKUVOA_AT_OBJECTS];
+    CHECK(n <= room && untouched(l, n));
+    for (size_t i = 0; i < n; i++) {
+        CHECK(l.at[i] <= 1);
+        in_it[i] = l.at[i] != 0;
+        ones += l.at[i];
+    }
+    CHECK(count == ones);
+    return 0;
+}
+
+static uint16_t broken_axiom(const Words *r, Words state, uint64_t *broken)
+{
+    uint16_t returned;
+    *broken = UNTOUCHED_OUT;
+    returned = bikuvoa_legal(r[SCHEMA].at, r[SCHEMA].words, state.at, state.words, broken);
+    CHECK(returned ? *broken == UNTOUCHED_OUT : *broken <= r[SCHEMA].at[BIKUVOA_AT_AXIOMS]);
+    return returned;
+}
+
+/* The lowest object in the query and outside the view by select, plus 1, in a state that is legal by legal; else 0. */
+static uint16_t check_counterexample(const Words *r, Words state, uint64_t *found)
+{
+    uint8_t in_query[BIKUVOA_MAX_OBJECTS], in_view[BIKUVOA_MAX_OBJECTS];
+    uint64_t broken, lowest = 0;
+    uint16_t returned;
+    *found = UNTOUCHED_OUT;
+    returned = bikuvoa_counterexample(r[SCHEMA].at, r[SCHEMA].words, r[QUERY].at, r[QUERY].words, r[VIEW].at, r[VIEW].words,
+                                      state.at, state.words, found);
+    if (returned) {
+        CHECK(*found == UNTOUCHED_OUT);
+        return returned;
+    }
+    CHECK(selected(r, r[QUERY], state, BIKUVOA_MAX_OBJECTS, in_query) == 0);
+    CHECK(selected(r, r[VIEW], state, BIKUVOA_MAX_OBJECTS, in_view) == 0);
+    CHECK(broken_axiom(r, state, &broken) == 0);
+    for (size_t i = state.at[BIKUVOA_AT_OBJECTS]; i > 0; i--)
+        if (in_query[i - 1] && !in_view[i - 1]) lowest = i;
+    CHECK(*found == (broken ? 0 : lowest));
+    return 0;
+}
+
+/* Held: nothing is written, and the input's own state is no counterexample. Open: the written state is one, by the object. */
+static uint16_t check_decide(const Words *r, size_t room)
+{
+    uint8_t in_query[BIKUVOA_MAX_OBJECTS], in_view[BIKUVOA_MAX_OBJECTS];
+    uint64_t objects = UNTOUCHED_OUT, object = UNTOUCHED_OUT, found;
+    Words l = lent(room);
+    uint16_t returned = bikuvoa_decide(r[SCHEMA].at, r[SCHEMA].words, r[QUERY].at, r[QUERY].words, r[VIEW].at, r[VIEW].words,
+                                       l.at, l.words, &objects, &object);
+    enum bikuvoa_verdict verdict = bikuvoa_verdict_of(returned, &objects);
+    verdicts[verdict]++;
+    if (verdict == BIKUVOA_REFUSED) {
+        CHECK(objects == UNTOUCHED_OUT && object == UNTOUCHED_OUT && untouched(l, 0));
+    } else if (verdict == BIKUVOA_HELD) {
+        CHECK(object == UNTOUCHED_OUT && untouched(l, 0));
+        CHECK(check_counterexample(r, r[STATE], &found) != 0 || found == 0);
+    } else {
+        CHECK(objects <= BIKUVOA_MAX_OBJECTS && object < objects && l.at[BIKUVOA_AT_OBJECTS] == objects);
+        CHECK(bikuvoa_state_length(l.at) <= l.words && untouched(l, bikuvoa_state_length(l.at)));
+        Words written = copied(WRITTEN, l.at, bikuvoa_state_length(l.at));
+        CHECK(check_counterexample(r, written, &found) == 0 && 0 < found && found <= object + 1);
+        CHECK(selected(r, r[QUERY], written, BIKUVOA_MAX_OBJECTS, in_query) == 0 && in_query[object]);
+        CHECK(selected(r, r[VIEW], written, BIKUVOA_MAX_OBJECTS, in_view) == 0 && !in_view[object]);
+    }
+    return returned;
+}
+
+/* The refusals of each record by itself, taken in the order of the checks, are those of the calls. */
+static uint16_t first(uint16_t one, uint16_t two)
+{
+    return one ? one : two;
+}
+
+static uint16_t few_words(size_t room, size_t least)
+{
+    return room < least ? BIKUVOA_FEW_LENT_WORDS : 0;
+}
+
+static void check_all(const Words *r, size_t select_room, size_t decide_room)
+{
+    uint8_t in_query[BIKUVOA_MAX_OBJECTS];
+    uint64_t broken, found;
+    uint16_t schema = bikuvoa_schema_refusal(r[SCHEMA].at, r[SCHEMA].words);
+    uint16_t query = bikuvoa_query_refusal(r[SCHEMA].at, r[SCHEMA].words, r[QUERY].at, r[QUERY].words);
+    uint16_t view = bikuvoa_view_refusal(r[SCHEMA].at, r[SCHEMA].words, r[VIEW].at, r[VIEW].words);
+    uint16_t state = broken_axiom(r, r[STATE], &broken);
+    size_t objects = state ? 0 : r[STATE].at[BIKUVOA_AT_OBJECTS];
+    CHECK(schema <= BIKUVOA_BAD_AXIOM && query <= BIKUVOA_BAD_STEPS && view <= BIKUVOA_BAD_STEPS);
+    CHECK(!schema || (query == schema && view == schema && state == schema));
+    CHECK(schema || state == 0 || (BIKUVOA_BAD_STATE_SHAPE <= state && state <= BIKUVOA_BAD_CONSTANTS));
+    CHECK(selected(r, r[QUERY], r[STATE], select_room, in_query)
+          == first(first(query, state), few_words(select_room, objects)));
+    CHECK(check_counterexample(r, r[STATE], &found) == first(first(query, view), state));
+    CHECK(check_decide(r, decide_room) == first(first(query, view), few_words(decide_room, BIKUVOA_DECIDE_WORDS)));
+}
+
+static void check_held_by_itself(const Words *r)
+{
+    const Words twice[] = {r[SCHEMA], r[VIEW], r[VIEW], r[STATE]};
+    unsigned long open = verdicts[BIKUVOA_OPEN];
+    check_decide(twice, BIKUVOA_DECIDE_WORDS);
+    CHECK(verdicts[BIKUVOA_OPEN] == open);
+}
+
+int LLVMFuzzerTestOneInput(const uint8_t *data, size_t size)
+{
+    Input in = {data, size};
+    Words r[STATE + 1];
+    size_t way = byte(&in), rooms = byte(&in), objects;
+    if (way % 8 < 2) {
+        for (int place = SCHEMA; place <= STATE; place++) r[place] = arbitrary(&in, place);
+    } else {
+        Declared d = {below(&in, 5), below(&in, 4), below(&in, 3)};
+        r[SCHEMA] = built_schema(&in, d);
+        r[QUERY] = built_concept(&in, d, QUERY, BIKUVOA_QUERY_STEPS);
+        r[VIEW] = built_concept(&in, d, VIEW, BIKUVOA_VIEW_STEPS);
+        r[STATE] = built_state(&in, d);
+        if (way % 8 < 4) damage(&in, r);
+    }
+    objects = r[STATE].words > BIKUVOA_AT_OBJECTS ? r[STATE].at[BIKUVOA_AT_OBJECTS] : 0;
+    check_all(r, objects > 0 && rooms % 4 == 0 ? objects - 1 : objects + rooms % 4,
+              BIKUVOA_DECIDE_WORDS - (rooms / 4 % 8 == 0));
+    check_held_by_itself(r);
+    return 0;
+}
+
+#ifdef STANDALONE
+int main(int argc, char **argv)
+{
+    uint64_t random = 1;
+    long inputs = argc > 1 ? atol(argv[1]) : 0;
+    for (long i = 0; i < inputs; i++) {
+        uint8_t data[300];
+        for (size_t at = 0; at < sizeof data; at++) {
+            random = random * 6364136223846793005u + 1442695040888963407u;
+            data[at] = (uint8_t)(random >> 56);
+        }
+        LLVMFuzzerTestOneInput(data, sizeof data);
+    }
+    printf("%ld inputs: held %lu, open %lu, refused %lu\n", inputs, verdicts[BIKUVOA_HELD], verdicts[BIKUVOA_OPEN],
+           verdicts[BIKUVOA_REFUSED]);
+    return verdicts[BIKUVOA_HELD] && verdicts[BIKUVOA_OPEN] && verdicts[BIKUVOA_REFUSED] ? 0 : 1;
+}
+#endif

@@ -1,0 +1,138 @@
+/* Many threads at once, each with lent words and out values of its own and a stack of about the documented size, over shared
+ * records: every answer and every lent word is as in a single thread. */
+#define _POSIX_C_SOURCE 200809L
+#include "bikuvoa.h"
+#include <pthread.h>
+#include <stdio.h>
+#include <stdlib.h>
+#include <string.h>
+
+#define THREADS 8
+#define ROUNDS 400
+#define UNTOUCHED 0xBEEF
+#define OWN_FRAMES 65536
+
+enum { HELD, OPEN, REFUSED, DEEP, CASES };
+enum { SELECT, LEGAL, COUNTEREXAMPLE, DECIDE, ENTRIES };
+
+typedef struct {
+    bikuvoa_concept query, view;
+    bikuvoa_state state;
+} Case;
+
+typedef struct {
+    int returned;
+    uint64_t outs[2];
+    uint16_t lent[BIKUVOA_DECIDE_WORDS];
+} Answer;
+
+static bikuvoa_schema schema;
+static Case cases[CASES];
+static Answer expected[CASES][ENTRIES];
+static pthread_barrier_t barrier;
+
+/* Class 0 needs attribute 0, which goes from class 1 to class 2: each object of 0 is in 1. */
+static void make_cases(void)
+{
+    static uint16_t schema_words[BIKUVOA_SCHEMA_WORDS(2)], words[CASES][2][BIKUVOA_MAX_CONCEPT_WORDS];
+    static uint16_t state_words[CASES][BIKUVOA_STATE_WORDS(6)];
+    schema = bikuvoa_start_schema(schema_words, BIKUVOA_SCHEMA_WORDS(2), 3, 1, 0);
+    bikuvoa_necessary(&schema, 0, 0);
+    bikuvoa_relates(&schema, 0, 1, 2);
+    for (size_t i = 0; i < CASES; i++) {
+        Case *c = &cases[i];
+        c->query = bikuvoa_start_concept(words[i][0], BIKUVOA_MAX_CONCEPT_WORDS);
+        c->view = bikuvoa_start_concept(words[i][1], BIKUVOA_MAX_CONCEPT_WORDS);
+        c->state = bikuvoa_start_state(state_words[i], BIKUVOA_STATE_WORDS(6), 3 + i);
+        bikuvoa_member(&c->state, 0, i);
+        bikuvoa_member(&c->state, 1, i);
+        bikuvoa_member(&c->state, 1, 2);
+        bikuvoa_member(&c->state, 2, i);
+        if (i != HELD) bikuvoa_pair(&c->state, 0, i, i);
+    }
+    bikuvoa_class(&cases[HELD].query, 0);
+    bikuvoa_class(&cases[HELD].view, 1);
+    bikuvoa_class(&cases[OPEN].query, 1);
+    bikuvoa_class(&cases[OPEN].view, 0);
+    bikuvoa_class(&cases[REFUSED].query, 1);
+    bikuvoa_class(&cases[REFUSED].view, 3);
+    for (int i = 1; i < BIKUVOA_QUERY_STEPS; i++) bikuvoa_empty(&cases[DEEP].query);
+    bikuvoa_class(&cases[DEEP].query, 1);
+    for (int i = 1; i < BIKUVOA_QUERY_STEPS; i++) {
+        bikuvoa_forward(&cases[DEEP].query, 0);
+        bikuvoa_empty(&cases[DEEP].query);
+        bikuvoa_common(&cases[DEEP].query);
+    }
+    bikuvoa_class(&cases[DEEP].view, 0);
+}
+
+static void call(const Case *c, int entry, Answer *a)
+{
+    const bikuvoa_concept q = c->query, v = c->view;
+    const bikuvoa_state s = c->state;
+    for (int i = 0; i < BIKUVOA_DECIDE_WORDS; i++) a->lent[i] = UNTOUCHED;
+    a->outs[0] = a->outs[1] = 99;
+    if (entry == SELECT)
+        a->returned = bikuvoa_select(schema.words, schema.length, q.words, q.length, s.words, s.length, a->lent,
+                                     BIKUVOA_DECIDE_WORDS, &a->outs[0]);
+    else if (entry == LEGAL)
+        a->returned = bikuvoa_legal(schema.words, schema.length, s.words, s.length, &a->outs[0]);
+    else if (entry == COUNTEREXAMPLE)
+        a->returned = bikuvoa_counterexample(schema.words, schema.length, q.words, q.length, v.words, v.length, s.words,
+                                             s.length, &a->outs[0]);
+    else
+        a->returned = bikuvoa_decide(schema.words, schema.length, q.words, q.length, v.words, v.length, a->lent,
+                                     BIKUVOA_DECIDE_WORDS, &a->outs[0], &a->outs[1]);
+}
+
+static int same(const Answer *a, const Answer *b)
+{
+    return a->returned == b->returned && a->outs[0] == b->outs[0] && a->outs[1] == b->outs[1]
+           && memcmp(a->lent, b->lent, sizeof a->lent) == 0;
+}
+
+/* Returns its argument if an answer differs. Each thread begins at another place. */
+static void *work(void *number)
+{
+    Answer *answer = malloc(sizeof *answer);
+    void *wrong = answer ? NULL : number;
+    int from = *(int *)number;
+    pthread_barrier_wait(&barrier);
+    for (int i = 0; i < ROUNDS * CASES * ENTRIES && !wrong; i++) {
+        int at = (from + i) % (CASES * ENTRIES);
+        call(&cases[at / ENTRIES], at % ENTRIES, answer);
+        if (!same(answer, &expected[at / ENTRIES][at % ENTRIES])) wrong = number;
+    }
+    free(answer);
+    return wrong;
+}
+
+int main(void)
+{
+    static const int NUMBERS[CASES] = {0, 0, BIKUVOA_BAD_TOKEN, 0};
+    pthread_t threads[THREADS];
+    int numbers[THREADS];
+    pthread_attr_t attributes;
+    int wrong = 0;
+    make_cases();
+    for (int i = 0; i < CASES; i++)
+        for (int entry = 0; entry < ENTRIES; entry++) call(&cases[i], entry, &expected[i][entry]);
+    for (int i = 0; i < CASES; i++)
+        if (expected[i][DECIDE].returned != NUMBERS[i] || (expected[i][DECIDE].outs[0] == 0) != (i == HELD)) return 1;
+    if (pthread_barrier_init(&barrier, NULL, THREADS) || pthread_attr_init(&attributes)
+        || pthread_attr_setstacksize(&attributes, BIKUVOA_STACK_BYTES + OWN_FRAMES)) return 1;
+    for (int i = 0; i < THREADS; i++) {
+        numbers[i] = i;
+        if (pthread_create(&threads[i], &attributes, work, &numbers[i])) return 1;
+    }
+    for (int i = 0; i < THREADS; i++) {
+        void *result = NULL;
+        if (pthread_join(threads[i], &result) || result) wrong = 1;
+    }
+    if (wrong) {
+        fprintf(stderr, "failed: an answer differs between threads\n");
+        return 1;
+    }
+    printf("threads: %d with %d calls each, as in a single one\n", THREADS, ROUNDS * CASES * ENTRIES);
+    return 0;
+}
