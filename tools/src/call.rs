@@ -1,6 +1,6 @@
 //! A call of an entry, as the words that are passed.
 
-use crate::record::{Layout, CONCEPT, SCHEMA, STATE};
+use bikuvoa::layout::{Layout, CONCEPT, SCHEMA, STATE};
 
 #[derive(Clone, Copy, Debug, PartialEq, Eq)]
 pub enum Entry {

@@ -2,15 +2,20 @@
 
 use super::Scale;
 use crate::prng::Prng;
-use crate::record::token::{self, BOTH, COMMON, EMPTY_PATH, EVERYTHING, REACHED};
-use crate::record::{Alphabet, Pair, MOST_TOKENS};
+use bikuvoa::layout::token::{self, BOTH, COMMON, EMPTY, EVERYTHING, REACHED};
+use bikuvoa::layout::{Pair, Signature, MAX_TOKENS};
 
-/// A concept over the alphabet with at most the given steps.
-pub(super) fn tokens(prng: &mut Prng, alphabet: Alphabet, steps: usize, scale: Scale) -> Vec<Pair> {
+/// A concept over the signature with at most the given steps.
+pub(super) fn tokens(
+    prng: &mut Prng,
+    signature: Signature,
+    steps: usize,
+    scale: Scale,
+) -> Vec<Pair> {
     let budget = budget(prng, scale);
     let mut draft = Draft {
         prng,
-        alphabet,
+        signature,
         steps,
         tokens: Vec::new(),
     };
@@ -24,22 +29,22 @@ pub(super) fn budget(prng: &mut Prng, scale: Scale) -> usize {
         (_, 0) => prng.between(1, 4),
         (Scale::Small, 1..=6) => prng.between(4, 16),
         (Scale::Small, _) => prng.between(8, 32),
-        (Scale::Large, _) => prng.between(16, MOST_TOKENS),
+        (Scale::Large, _) => prng.between(16, MAX_TOKENS),
     }
 }
 
 /// A concept that asks nothing but a class, a constant or nothing at all.
-fn leaf(prng: &mut Prng, alphabet: Alphabet) -> Pair {
+fn leaf(prng: &mut Prng, signature: Signature) -> Pair {
     match prng.below(10) {
-        0..=6 if alphabet.classes > 0 => token::class(prng.word_below(alphabet.classes)),
-        7..=8 if alphabet.constants > 0 => token::constant(prng.word_below(alphabet.constants)),
+        0..=6 if signature.classes > 0 => token::class(prng.word_below(signature.classes)),
+        7..=8 if signature.constants > 0 => token::constant(prng.word_below(signature.constants)),
         _ => EVERYTHING,
     }
 }
 
 struct Draft<'a> {
     prng: &'a mut Prng,
-    alphabet: Alphabet,
+    signature: Signature,
     /// The steps that may still be used.
     steps: usize,
     tokens: Vec<Pair>,
@@ -65,15 +70,15 @@ impl Draft<'_> {
                 self.path(budget - 1 - left);
                 self.tokens.push(COMMON);
             }
-            _ => self.tokens.push(leaf(self.prng, self.alphabet)),
+            _ => self.tokens.push(leaf(self.prng, self.signature)),
         }
     }
 
     /// Puts a path of at most `budget` tokens, which is not 0.
     fn path(&mut self, budget: usize) {
-        let room = budget >= 3 && self.steps > 0 && self.alphabet.attributes > 0;
+        let room = budget >= 3 && self.steps > 0 && self.signature.attributes > 0;
         if !room || self.prng.chance(10) {
-            self.tokens.push(EMPTY_PATH);
+            self.tokens.push(EMPTY);
             return;
         }
         self.steps -= 1;
@@ -83,7 +88,7 @@ impl Draft<'_> {
         let landing = self.prng.between(1, most).min(self.prng.between(1, most));
         self.path(budget - 1 - landing);
         self.concept(landing);
-        let attribute = self.prng.word_below(self.alphabet.attributes);
+        let attribute = self.prng.word_below(self.signature.attributes);
         self.tokens.push(if self.prng.chance(65) {
             token::forward(attribute)
         } else {

@@ -3,9 +3,9 @@
 
 use crate::call::{Call, Place};
 use crate::prng::Prng;
-use crate::record::token::{self, EMPTY_PATH, EVERYTHING, REACHED};
-use crate::record::{self, Layout, MOST_OBJECTS, QUERY_STEPS, VIEW_STEPS};
-use crate::record::{MOST_ATTRIBUTES, MOST_CLASSES, MOST_CONSTANTS};
+use bikuvoa::layout::token::{self, EMPTY, EVERYTHING, REACHED};
+use bikuvoa::layout::{self, Layout, MAX_OBJECTS, QUERY_STEPS, VIEW_STEPS};
+use bikuvoa::layout::{MAX_ATTRIBUTES, MAX_CLASSES, MAX_CONSTANTS};
 
 /// Damages what stands at the place.
 pub fn damage(prng: &mut Prng, call: &mut Call, place: Place) {
@@ -16,7 +16,7 @@ pub fn damage(prng: &mut Prng, call: &mut Call, place: Place) {
             3 => cut(prng, words),
             4 => lengthen(prng, words),
             5 => *words = random_words(prng),
-            6..=8 => alter_parts(prng, layout, words),
+            6..=8 => alter_entries(prng, layout, words),
             9 => fill(prng, layout, words),
             _ => reach_limit(prng, place, words),
         },
@@ -67,29 +67,30 @@ fn random_words(prng: &mut Prng) -> Vec<u16> {
         .collect()
 }
 
-/// Drops, doubles, swaps or alters parts in a record whose length still fits.
-fn alter_parts(prng: &mut Prng, layout: &Layout, words: &mut Vec<u16>) {
-    let Some(mut parts) = layout.parts(words).filter(|parts| !parts.is_empty()) else {
+/// Drops, doubles, swaps or alters entries in a record whose length still fits.
+fn alter_entries(prng: &mut Prng, layout: &Layout, words: &mut Vec<u16>) {
+    let entries = layout.entries(words).map(Vec::from_iter);
+    let Some(mut entries) = entries.filter(|entries| !entries.is_empty()) else {
         return flip_word(prng, layout, words);
     };
-    let (one, other) = (prng.below(parts.len()), prng.below(parts.len()));
+    let (one, other) = (prng.below(entries.len()), prng.below(entries.len()));
     match prng.below(4) {
-        0 => drop(parts.remove(one)),
-        1 => parts.insert(other, parts[one]),
-        2 => parts.swap(one, other),
-        _ => parts[one] = (parts[one].0, parts[other].1),
+        0 => drop(entries.remove(one)),
+        1 => entries.insert(other, entries[one]),
+        2 => entries.swap(one, other),
+        _ => entries[one] = (entries[one].0, entries[other].1),
     }
-    *words = layout.record(words, &parts);
+    *words = layout.record(words, &entries);
 }
 
-/// As many parts as there may be, or one more, by repeating the last.
+/// As many entries as there may be, or one more, by repeating the last.
 fn fill(prng: &mut Prng, layout: &Layout, words: &mut Vec<u16>) {
-    let Some(mut parts) = layout.parts(words) else {
+    let Some(mut entries) = layout.entries(words).map(Vec::from_iter) else {
         return lengthen(prng, words);
     };
-    let part = parts.last().copied().unwrap_or((0, 0));
-    parts.resize(layout.most + prng.below(2), part);
-    *words = layout.record(words, &parts);
+    let last = entries.last().copied().unwrap_or((0, 0));
+    entries.resize(layout.max + prng.below(2), last);
+    *words = layout.record(words, &entries);
 }
 
 /// A size word at its limit or one above it; for a concept, a path of as many
@@ -98,20 +99,20 @@ fn reach_limit(prng: &mut Prng, place: Place, words: &mut Vec<u16>) {
     let above = prng.word_below(2);
     match (place, &mut words[..]) {
         (Place::Schema, [classes, attributes, constants, ..]) => match prng.below(3) {
-            0 => *classes = MOST_CLASSES + above,
-            1 => *attributes = MOST_ATTRIBUTES + above,
-            _ => *constants = MOST_CONSTANTS + above,
+            0 => *classes = MAX_CLASSES + above,
+            1 => *attributes = MAX_ATTRIBUTES + above,
+            _ => *constants = MAX_CONSTANTS + above,
         },
         (Place::Query | Place::View, _) => {
             let limit = prng.one_of([VIEW_STEPS, QUERY_STEPS]);
-            let mut tokens = vec![EMPTY_PATH];
+            let mut tokens = vec![EMPTY];
             for _ in 0..limit + usize::from(above) {
                 tokens.extend([EVERYTHING, token::forward(0)]);
             }
             tokens.push(REACHED);
-            *words = record::concept(&tokens);
+            *words = layout::concept(&tokens);
         }
-        (Place::State, [objects, ..]) => *objects = record::word(MOST_OBJECTS) + above,
+        (Place::State, [objects, ..]) => *objects = MAX_OBJECTS + above,
         _ => {}
     }
 }

@@ -3,7 +3,8 @@
 
 use super::sketch::{Clash, Sketch};
 use crate::prng::Prng;
-use crate::record::{word, Alphabet};
+use crate::word;
+use bikuvoa::layout::Signature;
 use reference::syntax::{Axiom, Concept, Schema};
 
 /// Where the values that the schema needs come from.
@@ -39,13 +40,13 @@ pub(super) fn repair(
 
 /// A legal state with an object in the query, and that object.
 pub(super) fn model(
-    alphabet: Alphabet,
+    signature: Signature,
     schema: &Schema,
     query: &Concept,
     values: Values,
     prng: &mut Prng,
 ) -> Result<(Sketch, usize), Clash> {
-    let mut sketch = Sketch::new(alphabet);
+    let mut sketch = Sketch::new(signature);
     let start = sketch.add_object();
     sketch.put(start, query)?;
     repair(&mut sketch, schema, values, prng)?;
@@ -172,11 +173,11 @@ impl Repair<'_> {
             return object;
         }
         let object = self.sketch.add_object();
-        let alphabet = self.sketch.alphabet();
-        for class in 0..alphabet.classes {
+        let signature = self.sketch.signature();
+        for class in 0..signature.classes {
             self.sketch.enter(object, class.into());
         }
-        for attribute in 0..alphabet.attributes {
+        for attribute in 0..signature.attributes {
             self.sketch.relate(attribute, object, object);
         }
         self.closing = Some(object);

@@ -2,7 +2,8 @@
 
 use super::state::State;
 use crate::prng::Prng;
-use crate::record::{fact, Alphabet};
+use crate::word;
+use bikuvoa::layout::{fact, Signature};
 use reference::syntax::{Concept, Direction, Path};
 use std::collections::BTreeSet;
 
@@ -12,7 +13,7 @@ pub(super) struct Clash;
 
 #[derive(Clone)]
 pub(super) struct Sketch {
-    alphabet: Alphabet,
+    signature: Signature,
     /// For each object the one that it was merged into, or itself.
     merged: Vec<usize>,
     /// For each object its classes, one bit each.
@@ -24,10 +25,10 @@ pub(super) struct Sketch {
 
 impl Sketch {
     /// An object for each constant and nothing else.
-    pub(super) fn new(alphabet: Alphabet) -> Self {
-        let constants: Vec<usize> = (0..alphabet.constants.into()).collect();
+    pub(super) fn new(signature: Signature) -> Self {
+        let constants: Vec<usize> = (0..signature.constants.into()).collect();
         Sketch {
-            alphabet,
+            signature,
             merged: constants.clone(),
             classes: vec![0; constants.len()],
             pairs: BTreeSet::new(),
@@ -35,8 +36,8 @@ impl Sketch {
         }
     }
 
-    pub(super) fn alphabet(&self) -> Alphabet {
-        self.alphabet
+    pub(super) fn signature(&self) -> Signature {
+        self.signature
     }
 
     pub(super) fn add_object(&mut self) -> usize {
@@ -145,7 +146,7 @@ impl Sketch {
         };
         let from = self.lead(object, before)?;
         let to = self.add_object();
-        let attribute = crate::record::word(step.role.attribute);
+        let attribute = word(step.role.attribute);
         match step.role.direction {
             Direction::Forward => self.relate(attribute, from, to),
             Direction::Backward => self.relate(attribute, to, from),
@@ -159,11 +160,11 @@ impl Sketch {
         let mut objects = self.objects();
         prng.shuffle(&mut objects);
         let mut numbers = vec![0; self.merged.len()];
-        for (number, &object) in objects.iter().enumerate() {
+        for (number, &object) in (0..).zip(&objects) {
             numbers[object] = number;
         }
         let mut facts = Vec::new();
-        for class in 0..self.alphabet.classes {
+        for class in 0..self.signature.classes {
             let members = objects
                 .iter()
                 .filter(|&&object| self.is_in(object, class.into()));
@@ -173,7 +174,7 @@ impl Sketch {
             facts.push(fact::pair(attribute, numbers[first], numbers[second]));
         }
         for (constant, &object) in (0..).zip(&self.constants) {
-            facts.push(fact::named(constant, numbers[object]));
+            facts.push(fact::name(constant, numbers[object]));
         }
         State::new(objects.len(), facts)
     }

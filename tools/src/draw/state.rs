@@ -3,8 +3,12 @@
 use super::repair::{model, repair, Values};
 use super::sketch::Sketch;
 use crate::prng::Prng;
-use crate::record::{self, fact, Alphabet, Pair, MOST_FACTS, MOST_OBJECTS};
+use crate::word;
+use bikuvoa::layout::{self, fact, Pair, Signature, MAX_FACTS, MAX_OBJECTS};
 use reference::syntax::{Concept, Schema};
+
+/// The most objects, as a count.
+const OBJECTS: usize = MAX_OBJECTS as usize;
 
 /// A state as its number of objects and its ascending facts.
 #[derive(Clone, Debug)]
@@ -21,43 +25,43 @@ impl State {
     }
 
     pub fn words(&self) -> Vec<u16> {
-        record::state(self.objects, &self.facts)
+        layout::state(word(self.objects), &self.facts)
     }
 }
 
 /// A state for the schema. Some have an object in the query, some obey the
 /// schema, some are a fact away from it, and a few reach the limits.
-pub fn state(prng: &mut Prng, alphabet: Alphabet, schema: &Schema, query: &Concept) -> State {
+pub fn state(prng: &mut Prng, signature: Signature, schema: &Schema, query: &Concept) -> State {
     match prng.below(1000) {
-        0..=1 => full(prng, alphabet),
-        2..=7 => scattered(prng, alphabet, MOST_OBJECTS).state(prng),
+        0..=1 => full(prng, signature),
+        2..=7 => scattered(prng, signature, OBJECTS).state(prng),
         8..=27 => {
-            let state = small(prng, alphabet, schema, query);
+            let state = small(prng, signature, schema, query);
             copies(prng, &state)
         }
-        28..=79 => scattered(prng, alphabet, 60).state(prng),
+        28..=79 => scattered(prng, signature, 60).state(prng),
         80..=249 => {
-            let state = small(prng, alphabet, schema, query);
-            one_fact_away(prng, alphabet, &state)
+            let state = small(prng, signature, schema, query);
+            one_fact_away(prng, signature, &state)
         }
-        _ => small(prng, alphabet, schema, query),
+        _ => small(prng, signature, schema, query),
     }
 }
 
 /// As large as a record can be: every object in all classes and its own value
 /// of every attribute, with random pairs for the rest of the facts.
-pub(super) fn full(prng: &mut Prng, alphabet: Alphabet) -> State {
+pub(super) fn full(prng: &mut Prng, signature: Signature) -> State {
     let mut facts = Vec::new();
-    for object in 0..MOST_OBJECTS {
-        facts.extend((0..alphabet.classes).map(|class| fact::member(class, object)));
+    for object in 0..MAX_OBJECTS {
+        facts.extend((0..signature.classes).map(|class| fact::member(class, object)));
         let own = |attribute| fact::pair(attribute, object, object);
-        facts.extend((0..alphabet.attributes).map(own));
+        facts.extend((0..signature.attributes).map(own));
     }
-    facts.extend((0..alphabet.constants).map(|constant| fact::named(constant, constant.into())));
-    let mut state = State::new(MOST_OBJECTS, facts);
-    while alphabet.attributes > 0 && state.facts.len() < MOST_FACTS {
-        for _ in state.facts.len()..MOST_FACTS {
-            let pair = random_pair(prng, alphabet, MOST_OBJECTS);
+    facts.extend((0..signature.constants).map(|constant| fact::name(constant, constant)));
+    let mut state = State::new(OBJECTS, facts);
+    while signature.attributes > 0 && state.facts.len() < MAX_FACTS {
+        for _ in state.facts.len()..MAX_FACTS {
+            let pair = random_pair(prng, signature, OBJECTS);
             state.facts.push(pair);
         }
         state = State::new(state.objects, state.facts);
@@ -67,8 +71,8 @@ pub(super) fn full(prng: &mut Prng, alphabet: Alphabet) -> State {
 
 /// A few objects. Where a repair fails because two constants would be one
 /// object, the facts stay as they were scattered.
-fn small(prng: &mut Prng, alphabet: Alphabet, schema: &Schema, query: &Concept) -> State {
-    let sketch = scattered(prng, alphabet, 8);
+fn small(prng: &mut Prng, signature: Signature, schema: &Schema, query: &Concept) -> State {
+    let sketch = scattered(prng, signature, 8);
     match prng.below(10) {
         0..=2 => sketch.state(prng),
         3..=4 => {
@@ -78,7 +82,7 @@ fn small(prng: &mut Prng, alphabet: Alphabet, schema: &Schema, query: &Concept) 
                 Err(_) => sketch.state(prng),
             }
         }
-        _ => match model(alphabet, schema, query, Values::Any, prng) {
+        _ => match model(signature, schema, query, Values::Any, prng) {
             Ok((model, _)) => model.state(prng),
             Err(_) => sketch.state(prng),
         },
@@ -86,13 +90,13 @@ fn small(prng: &mut Prng, alphabet: Alphabet, schema: &Schema, query: &Concept) 
 }
 
 /// Random facts over at most the given number of objects.
-fn scattered(prng: &mut Prng, alphabet: Alphabet, most: usize) -> Sketch {
-    let mut sketch = Sketch::new(alphabet);
+fn scattered(prng: &mut Prng, signature: Signature, most: usize) -> Sketch {
+    let mut sketch = Sketch::new(signature);
     for _ in sketch.objects().len()..prng.between(0, most) {
         sketch.add_object();
     }
     let objects = sketch.objects().len();
-    for class in 0..alphabet.classes {
+    for class in 0..signature.classes {
         let percent = prng.below(100);
         for object in 0..objects {
             if prng.chance(percent) {
@@ -101,10 +105,10 @@ fn scattered(prng: &mut Prng, alphabet: Alphabet, most: usize) -> Sketch {
         }
     }
     if objects > 0 {
-        for attribute in 0..alphabet.attributes {
+        for attribute in 0..signature.attributes {
             // Even with all objects in all classes, so many pairs are not too
             // many for a record.
-            let most = MOST_OBJECTS.min(2 * objects);
+            let most = OBJECTS.min(2 * objects);
             for _ in 0..prng.between(0, most) {
                 sketch.relate(attribute, prng.below(objects), prng.below(objects));
             }
@@ -116,13 +120,13 @@ fn scattered(prng: &mut Prng, alphabet: Alphabet, most: usize) -> Sketch {
 /// The state beside itself, as often as the limits allow or less often. Axioms
 /// see one copy at a time, so the copies are as legal as the state.
 fn copies(prng: &mut Prng, state: &State) -> State {
-    let most = MOST_OBJECTS / state.objects.max(1);
-    let most = most.min(MOST_FACTS / state.facts.len().max(1));
+    let most = OBJECTS / state.objects.max(1);
+    let most = most.min(MAX_FACTS / state.facts.len().max(1));
     let mut facts = state.facts.clone();
     let count = prng.between(1, most.max(1));
     for copy in 1..count {
-        let shift = record::word(copy * state.objects);
-        let moved = state.facts.iter().filter_map(|&part| moved(part, shift));
+        let shift = word(copy * state.objects);
+        let moved = state.facts.iter().filter_map(|&fact| moved(fact, shift));
         facts.extend(moved);
     }
     State::new(count * state.objects, facts)
@@ -131,28 +135,29 @@ fn copies(prng: &mut Prng, state: &State) -> State {
 /// The fact with its objects shifted; a constant keeps its one object.
 fn moved((left, right): Pair, shift: u16) -> Option<Pair> {
     match fact::kind((left, right)) {
-        kind if kind < fact::ATTRIBUTES => Some((left + shift, right)),
-        kind if kind < fact::CONSTANTS => Some((left + shift, right + shift)),
+        kind if kind < fact::ATTRIBUTE_KINDS => Some((left + shift, right)),
+        kind if kind < fact::CONSTANT_KINDS => Some((left + shift, right + shift)),
         _ => None,
     }
 }
 
 /// The state with one fact more or less, but with each constant's object.
-fn one_fact_away(prng: &mut Prng, alphabet: Alphabet, state: &State) -> State {
+fn one_fact_away(prng: &mut Prng, signature: Signature, state: &State) -> State {
     let mut facts = state.facts.clone();
-    let free = facts.partition_point(|&part| fact::kind(part) < fact::CONSTANTS);
+    let free = facts.partition_point(|&entry| fact::kind(entry) < fact::CONSTANT_KINDS);
     if free > 0 && prng.chance(60) {
         facts.remove(prng.below(free));
-    } else if state.objects > 0 && alphabet.attributes > 0 && prng.chance(50) {
-        facts.push(random_pair(prng, alphabet, state.objects));
-    } else if state.objects > 0 && alphabet.classes > 0 {
-        let class = prng.word_below(alphabet.classes);
-        facts.push(fact::member(class, prng.below(state.objects)));
+    } else if state.objects > 0 && signature.attributes > 0 && prng.chance(50) {
+        facts.push(random_pair(prng, signature, state.objects));
+    } else if state.objects > 0 && signature.classes > 0 {
+        let class = prng.word_below(signature.classes);
+        facts.push(fact::member(class, word(prng.below(state.objects))));
     }
     State::new(state.objects, facts)
 }
 
-fn random_pair(prng: &mut Prng, alphabet: Alphabet, objects: usize) -> Pair {
-    let attribute = prng.word_below(alphabet.attributes);
-    fact::pair(attribute, prng.below(objects), prng.below(objects))
+fn random_pair(prng: &mut Prng, signature: Signature, objects: usize) -> Pair {
+    let attribute = prng.word_below(signature.attributes);
+    let (first, second) = (prng.below(objects), prng.below(objects));
+    fact::pair(attribute, word(first), word(second))
 }

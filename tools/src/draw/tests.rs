@@ -4,7 +4,7 @@ use super::repair::{model, Values};
 use super::triple::Triple;
 use super::{state, wide};
 use crate::prng::Prng;
-use crate::record;
+use bikuvoa::layout;
 use reference::entries::{decide, legal, select, DECIDE_WORDS};
 use reference::records;
 use reference::semantics::{first_broken, selected};
@@ -37,7 +37,7 @@ fn states_are_accepted() {
     for _ in 0..DRAWS {
         let triple = Triple::random(&mut prng);
         let (schema, query) = triple.decoded();
-        let state = state::state(&mut prng, triple.alphabet, &schema, &query);
+        let state = state::state(&mut prng, triple.signature, &schema, &query);
         let answer = legal(&triple.schema_words(), &state.words());
         assert!(answer.is_ok(), "{answer:?} of {state:?}");
     }
@@ -51,7 +51,7 @@ fn models_are_legal_and_have_the_query() {
         let triple = Triple::random(&mut prng);
         let (schema, query) = triple.decoded();
         let values = prng.one_of([Values::New, Values::Any]);
-        let Ok((sketch, _)) = model(triple.alphabet, &schema, &query, values, &mut prng) else {
+        let Ok((sketch, _)) = model(triple.signature, &schema, &query, values, &mut prng) else {
             continue;
         };
         let words = sketch.state(&mut prng).words();
@@ -72,14 +72,14 @@ fn concepts_read_off_a_model_have_its_object() {
     for _ in 0..DRAWS {
         let triple = Triple::random(&mut prng);
         let (schema, query) = triple.decoded();
-        let model = model(triple.alphabet, &schema, &query, Values::Any, &mut prng);
+        let model = model(triple.signature, &schema, &query, Values::Any, &mut prng);
         let Ok((sketch, start)) = model else {
             continue;
         };
-        let view = super::witness::tokens(&mut prng, &sketch, start, record::VIEW_STEPS, 20);
+        let view = super::witness::tokens(&mut prng, &sketch, start, layout::VIEW_STEPS, 20);
         let state = sketch.state(&mut prng);
         let mut marks = vec![0; state.objects];
-        let words = (triple.schema_words(), record::concept(&view), state.words());
+        let words = (triple.schema_words(), layout::concept(&view), state.words());
         let count = select(&words.0, &words.1, &words.2, &mut marks);
         drawn += 1;
         missed += usize::from(count == Ok(0));
@@ -90,12 +90,12 @@ fn concepts_read_off_a_model_have_its_object() {
 #[test]
 fn the_full_state_has_all_facts() {
     let mut prng = Prng::new(35);
-    let alphabet = record::Alphabet {
-        classes: record::MOST_CLASSES,
-        attributes: record::MOST_ATTRIBUTES,
-        constants: record::MOST_CONSTANTS,
+    let signature = layout::Signature {
+        classes: layout::MAX_CLASSES,
+        attributes: layout::MAX_ATTRIBUTES,
+        constants: layout::MAX_CONSTANTS,
     };
-    let state = state::full(&mut prng, alphabet);
-    assert_eq!(state.facts.len(), record::MOST_FACTS);
-    assert_eq!(state.words().len(), record::DECIDE_WORDS);
+    let state = state::full(&mut prng, signature);
+    assert_eq!(state.facts.len(), layout::MAX_FACTS);
+    assert_eq!(state.words().len(), layout::DECIDE_WORDS);
 }

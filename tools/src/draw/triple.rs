@@ -4,18 +4,18 @@ use super::repair::{model, Values};
 use super::{concept, schema, witness, Scale};
 use crate::call::{Call, Entry};
 use crate::prng::Prng;
-use crate::record::token::{self, BACKWARD, BOTH, EVERYTHING, FORWARD};
-use crate::record::{self, Alphabet, Pair, DECIDE_WORDS, MOST_TOKENS, QUERY_STEPS, VIEW_STEPS};
+use bikuvoa::layout::token::{self, BACKWARD, BOTH, EVERYTHING, FORWARD};
+use bikuvoa::layout::{self, Pair, Signature, DECIDE_WORDS, MAX_TOKENS, QUERY_STEPS, VIEW_STEPS};
 use reference::records;
 use reference::syntax::{Concept, Schema};
 
 /// How often a token that comes out as it was is drawn again.
 const TRIES: usize = 4;
 
-/// A triple as the parts of its records.
+/// A triple as the entries of its records.
 #[derive(Clone, Debug)]
 pub struct Triple {
-    pub alphabet: Alphabet,
+    pub signature: Signature,
     pub axioms: Vec<Pair>,
     pub query: Vec<Pair>,
     pub view: Vec<Pair>,
@@ -29,12 +29,12 @@ impl Triple {
     }
 
     fn random_at(prng: &mut Prng, scale: Scale) -> Self {
-        let alphabet = schema::alphabet(prng, scale);
+        let signature = schema::signature(prng, scale);
         Triple {
-            alphabet,
-            axioms: schema::axioms(prng, alphabet, scale),
-            query: concept::tokens(prng, alphabet, QUERY_STEPS, scale),
-            view: concept::tokens(prng, alphabet, VIEW_STEPS, scale),
+            signature,
+            axioms: schema::axioms(prng, signature, scale),
+            query: concept::tokens(prng, signature, QUERY_STEPS, scale),
+            view: concept::tokens(prng, signature, VIEW_STEPS, scale),
         }
     }
 
@@ -47,7 +47,7 @@ impl Triple {
         triple.ask_for_class(prng);
         let values = prng.one_of([Values::New, Values::Any]);
         let (schema, query) = triple.decoded();
-        if let Ok((sketch, start)) = model(triple.alphabet, &schema, &query, values, prng) {
+        if let Ok((sketch, start)) = model(triple.signature, &schema, &query, values, prng) {
             let budget = concept::budget(prng, scale);
             triple.view = witness::tokens(prng, &sketch, start, VIEW_STEPS, budget);
         }
@@ -57,8 +57,8 @@ impl Triple {
     /// Also asks the query's object for a class, so that axioms have a hold on
     /// it.
     fn ask_for_class(&mut self, prng: &mut Prng) {
-        if self.alphabet.classes > 0 && self.query.len() + 2 <= MOST_TOKENS {
-            let class = prng.word_below(self.alphabet.classes);
+        if self.signature.classes > 0 && self.query.len() + 2 <= MAX_TOKENS {
+            let class = prng.word_below(self.signature.classes);
             self.query.extend([token::class(class), BOTH]);
         }
     }
@@ -70,20 +70,20 @@ impl Triple {
             0..=1 if !near.axioms.is_empty() => {
                 near.axioms.remove(prng.below(near.axioms.len()));
             }
-            2 => alter_token(prng, near.alphabet, &mut near.query),
-            _ => alter_token(prng, near.alphabet, &mut near.view),
+            2 => alter_token(prng, near.signature, &mut near.query),
+            _ => alter_token(prng, near.signature, &mut near.view),
         }
         near
     }
 
     pub fn schema_words(&self) -> Vec<u16> {
-        record::schema(self.alphabet, &self.axioms)
+        layout::schema(self.signature, &self.axioms)
     }
 
     /// The schema and the query as the reference reads them.
     pub fn decoded(&self) -> (Schema, Concept) {
         let schema = records::schema(&self.schema_words()).expect("a drawn schema is accepted");
-        let query = record::concept(&self.query);
+        let query = layout::concept(&self.query);
         let query = records::concept(&query, &schema, records::QUERY_STEPS);
         (schema, query.expect("a drawn query is accepted"))
     }
@@ -98,8 +98,8 @@ impl Triple {
         Call {
             entry,
             schema: self.schema_words(),
-            query: record::concept(&self.query),
-            view: record::concept(&self.view),
+            query: layout::concept(&self.query),
+            view: layout::concept(&self.view),
             state,
             lent,
         }
@@ -107,16 +107,16 @@ impl Triple {
 }
 
 /// Alters a leaf or a step. The other tokens hold the concept together and
-/// stay, and so may the only leaf of a small alphabet.
-fn alter_token(prng: &mut Prng, alphabet: Alphabet, tokens: &mut [Pair]) {
+/// stay, and so may the only leaf of a small signature.
+fn alter_token(prng: &mut Prng, signature: Signature, tokens: &mut [Pair]) {
     let open: Vec<usize> = (0..tokens.len())
-        .filter(|&place| matches!(tokens[place].0, 1..=3 | FORWARD | BACKWARD))
+        .filter(|&place| token::is_leaf(tokens[place]) || token::is_step(tokens[place]))
         .collect();
     for _ in 0..TRIES {
         let Some(place) = prng.pick(&open) else {
             return;
         };
-        let other = other_token(prng, alphabet, tokens[place]);
+        let other = other_token(prng, signature, tokens[place]);
         if other != tokens[place] {
             tokens[place] = other;
             return;
@@ -126,15 +126,15 @@ fn alter_token(prng: &mut Prng, alphabet: Alphabet, tokens: &mut [Pair]) {
 
 /// A leaf that asks something for a leaf; a step turned round, or with any
 /// attribute.
-fn other_token(prng: &mut Prng, alphabet: Alphabet, token: Pair) -> Pair {
+fn other_token(prng: &mut Prng, signature: Signature, token: Pair) -> Pair {
     match token {
         (FORWARD, attribute) if prng.chance(50) => (BACKWARD, attribute),
         (BACKWARD, attribute) if prng.chance(50) => (FORWARD, attribute),
-        (sort @ (FORWARD | BACKWARD), _) => (sort, prng.word_below(alphabet.attributes)),
-        _ if alphabet.constants > 0 && prng.chance(20) => {
-            token::constant(prng.word_below(alphabet.constants))
+        (sort @ (FORWARD | BACKWARD), _) => (sort, prng.word_below(signature.attributes)),
+        _ if signature.constants > 0 && prng.chance(20) => {
+            token::constant(prng.word_below(signature.constants))
         }
-        _ if alphabet.classes > 0 => token::class(prng.word_below(alphabet.classes)),
+        _ if signature.classes > 0 => token::class(prng.word_below(signature.classes)),
         _ => EVERYTHING,
     }
 }

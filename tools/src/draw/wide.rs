@@ -3,8 +3,8 @@
 
 use super::triple::Triple;
 use crate::prng::Prng;
-use crate::record::token::{self, BOTH, EMPTY_PATH, EVERYTHING, REACHED};
-use crate::record::{axiom, Alphabet, Pair, MOST_ATTRIBUTES, QUERY_STEPS, VIEW_STEPS};
+use bikuvoa::layout::token::{self, BOTH, EMPTY, EVERYTHING, REACHED};
+use bikuvoa::layout::{axiom, Pair, Signature, MAX_ATTRIBUTES, QUERY_STEPS, VIEW_STEPS};
 
 /// The class with the needs, and the class on which the view may land.
 const NEEDY: u16 = 0;
@@ -16,43 +16,43 @@ const STRETCH: usize = 4;
 
 /// A triple that is often open, with a state of hundreds of objects.
 pub fn triple(prng: &mut Prng) -> Triple {
-    let alphabet = Alphabet {
+    let signature = Signature {
         classes: 2,
-        attributes: MOST_ATTRIBUTES,
+        attributes: MAX_ATTRIBUTES,
         constants: prng.word_below(3),
     };
     Triple {
-        alphabet,
-        axioms: axioms(prng, alphabet),
-        query: query(prng, alphabet),
-        view: view(prng, alphabet),
+        signature,
+        axioms: axioms(prng, signature),
+        query: query(prng, signature),
+        view: view(prng, signature),
     }
 }
 
 /// Most values are needy again. Nothing is single, so nothing merges.
-fn axioms(prng: &mut Prng, alphabet: Alphabet) -> Vec<Pair> {
+fn axioms(prng: &mut Prng, signature: Signature) -> Vec<Pair> {
     let mut axioms = Vec::new();
-    for attribute in 0..alphabet.attributes {
+    for attribute in 0..signature.attributes {
         if prng.chance(90) {
-            axioms.push(axiom::needs(NEEDY, attribute));
+            axioms.push(axiom::necessary(NEEDY, attribute));
         }
         match prng.below(20) {
-            0 => axioms.push(axiom::types(NEEDY, attribute, OTHER)),
+            0 => axioms.push(axiom::typing(NEEDY, attribute, OTHER)),
             1 => axioms.push(axiom::relates(attribute, NEEDY, NEEDY)),
-            _ => axioms.push(axiom::types(NEEDY, attribute, NEEDY)),
+            _ => axioms.push(axiom::typing(NEEDY, attribute, NEEDY)),
         }
     }
     prng.shuffle(&mut axioms);
     axioms
 }
 
-fn query(prng: &mut Prng, alphabet: Alphabet) -> Vec<Pair> {
+fn query(prng: &mut Prng, signature: Signature) -> Vec<Pair> {
     let mut tokens = vec![token::class(NEEDY)];
     for _ in 0..QUERY_STEPS / STRETCH {
-        tokens.push(EMPTY_PATH);
+        tokens.push(EMPTY);
         for _ in 0..STRETCH {
             // Back along an attribute nothing is needed, so few steps go there.
-            let attribute = prng.word_below(alphabet.attributes);
+            let attribute = prng.word_below(signature.attributes);
             let step = if prng.chance(90) {
                 token::forward(attribute)
             } else {
@@ -66,10 +66,10 @@ fn query(prng: &mut Prng, alphabet: Alphabet) -> Vec<Pair> {
 }
 
 /// A path along different attributes, since each then asks for new values.
-fn view(prng: &mut Prng, alphabet: Alphabet) -> Vec<Pair> {
-    let mut attributes: Vec<u16> = (0..alphabet.attributes).collect();
+fn view(prng: &mut Prng, signature: Signature) -> Vec<Pair> {
+    let mut attributes: Vec<u16> = (0..signature.attributes).collect();
     prng.shuffle(&mut attributes);
-    let mut tokens = vec![EMPTY_PATH];
+    let mut tokens = vec![EMPTY];
     for &attribute in &attributes[..VIEW_STEPS] {
         tokens.extend([EVERYTHING, token::forward(attribute)]);
     }

@@ -4,10 +4,9 @@
 
 use super::sketch::Sketch;
 use crate::prng::Prng;
-use crate::record::token::{
-    self, BACKWARD, BOTH, COMMON, EMPTY_PATH, EVERYTHING, FORWARD, REACHED,
-};
-use crate::record::{word, Pair};
+use crate::word;
+use bikuvoa::layout::token::{self, BACKWARD, BOTH, COMMON, EMPTY, EVERYTHING, FORWARD, REACHED};
+use bikuvoa::layout::Pair;
 
 /// How often a second walk to the same end is looked for.
 const TRIES: usize = 8;
@@ -66,7 +65,7 @@ impl Witness<'_> {
     }
 
     fn leaf(&mut self, object: usize) -> Pair {
-        let classes = 0..self.sketch.alphabet().classes;
+        let classes = 0..self.sketch.signature().classes;
         let mut leaves: Vec<Pair> = classes
             .filter(|&class| self.sketch.is_in(object, class.into()))
             .map(token::class)
@@ -153,7 +152,7 @@ impl Witness<'_> {
 
     /// Puts the path along a walk, in at most `budget` tokens.
     fn path(&mut self, walk: &[Landing], budget: usize) {
-        self.tokens.push(EMPTY_PATH);
+        self.tokens.push(EMPTY);
         let mut spare = budget - 1 - 2 * walk.len();
         for &(step, landing) in walk {
             let more = self.prng.between(0, spare);

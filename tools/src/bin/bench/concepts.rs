@@ -2,9 +2,9 @@
 
 use crate::schemas::{CONSULTS, NAME, SKILLED_IN, SUFFERS, WEARS};
 use crate::schemas::{DISEASE, DOCTOR, FEMALE, FREE, MALE, PATIENT, PERSON, STRAP, STRING};
-use tools::record::token::{backward, class, forward};
-use tools::record::token::{BOTH, COMMON, EMPTY_PATH, EVERYTHING, REACHED};
-use tools::record::{concept, Pair, MOST_ATTRIBUTES, MOST_TOKENS, QUERY_STEPS, VIEW_STEPS};
+use bikuvoa::layout::token::{backward, class, forward};
+use bikuvoa::layout::token::{BOTH, COMMON, EMPTY, EVERYTHING, REACHED};
+use bikuvoa::layout::{concept, Pair, MAX_ATTRIBUTES, MAX_TOKENS, QUERY_STEPS, VIEW_STEPS};
 
 pub fn person() -> Vec<u16> {
     concept(&[class(PERSON)])
@@ -13,7 +13,7 @@ pub fn person() -> Vec<u16> {
 /// A value of wears that is also worn by a strap.
 pub fn there_and_back() -> Vec<u16> {
     concept(&[
-        EMPTY_PATH,
+        EMPTY,
         EVERYTHING,
         forward(WEARS),
         class(STRAP),
@@ -29,10 +29,10 @@ pub fn patients() -> Vec<u16> {
         class(MALE),
         class(PATIENT),
         BOTH,
-        EMPTY_PATH,
+        EMPTY,
         class(FEMALE),
         forward(CONSULTS),
-        EMPTY_PATH,
+        EMPTY,
         EVERYTHING,
         forward(SUFFERS),
         class(DOCTOR),
@@ -46,17 +46,17 @@ pub fn patients() -> Vec<u16> {
 pub fn known_patients() -> Vec<u16> {
     concept(&[
         class(PATIENT),
-        EMPTY_PATH,
+        EMPTY,
         class(STRING),
         forward(NAME),
         REACHED,
         BOTH,
-        EMPTY_PATH,
+        EMPTY,
         class(DOCTOR),
         forward(CONSULTS),
         class(DISEASE),
         forward(SKILLED_IN),
-        EMPTY_PATH,
+        EMPTY,
         class(DISEASE),
         forward(SUFFERS),
         COMMON,
@@ -66,7 +66,7 @@ pub fn known_patients() -> Vec<u16> {
 
 /// Puts a path with these steps, each landing on the class.
 fn put_path(tokens: &mut Vec<Pair>, landing: u16, steps: impl Iterator<Item = Pair>) {
-    tokens.push(EMPTY_PATH);
+    tokens.push(EMPTY);
     tokens.extend(steps.flat_map(|step| [class(landing), step]));
 }
 
@@ -74,9 +74,9 @@ fn put_path(tokens: &mut Vec<Pair>, landing: u16, steps: impl Iterator<Item = Pa
 /// and over, and once for what the empty path reaches if the tokens are odd.
 fn filled(mut tokens: Vec<Pair>) -> Vec<u16> {
     if tokens.len() % 2 == 1 {
-        tokens.extend([EMPTY_PATH, REACHED, BOTH]);
+        tokens.extend([EMPTY, REACHED, BOTH]);
     }
-    while tokens.len() < MOST_TOKENS {
+    while tokens.len() < MAX_TOKENS {
         tokens.extend([class(0), BOTH]);
     }
     concept(&tokens)
@@ -101,9 +101,9 @@ pub fn six_steps() -> Vec<u16> {
 
 /// Four paths of four steps along all attributes.
 pub fn star() -> Vec<u16> {
-    let mut tokens = vec![EMPTY_PATH, REACHED];
+    let mut tokens = vec![EMPTY, REACHED];
     for arm in 0..4 {
-        let steps = (0..4).map(|step| forward((4 * arm + step) % MOST_ATTRIBUTES));
+        let steps = (0..4).map(|step| forward((4 * arm + step) % MAX_ATTRIBUTES));
         put_path(&mut tokens, 0, steps);
         tokens.extend([REACHED, BOTH]);
     }
@@ -126,10 +126,10 @@ const DEPTH: usize = 15;
 
 /// An object that is its own value, and that value is its own value, and so on.
 pub fn nested() -> Vec<u16> {
-    let mut tokens = vec![EMPTY_PATH; DEPTH];
+    let mut tokens = vec![EMPTY; DEPTH];
     tokens.push(class(1));
     for _ in 0..DEPTH {
-        tokens.extend([forward(0), EMPTY_PATH, COMMON]);
+        tokens.extend([forward(0), EMPTY, COMMON]);
     }
     filled(tokens)
 }

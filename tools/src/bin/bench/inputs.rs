@@ -1,8 +1,8 @@
 //! The inputs that are measured.
 
 use crate::{concepts, schemas, states};
+use bikuvoa::layout::{DECIDE_WORDS, MAX_OBJECTS};
 use tools::call::{Call, Entry};
-use tools::record::{DECIDE_WORDS, MOST_OBJECTS};
 
 /// A call and what is said of it in the table.
 pub struct Input {
@@ -88,7 +88,7 @@ fn largest(entry: Entry) -> Call {
         query,
         view,
         state,
-        lent: lent(entry, MOST_OBJECTS),
+        lent: lent(entry, MAX_OBJECTS.into()),
     }
 }
 

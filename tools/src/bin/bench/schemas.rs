@@ -1,8 +1,8 @@
 //! The schemas of the inputs.
 
-use tools::record::axiom::{includes, needs, relates, single, types};
-use tools::record::{schema, Alphabet};
-use tools::record::{MOST_ATTRIBUTES, MOST_AXIOMS, MOST_CLASSES, MOST_CONSTANTS};
+use bikuvoa::layout::axiom::{necessary, relates, single, subclass, typing};
+use bikuvoa::layout::{schema, Signature};
+use bikuvoa::layout::{MAX_ATTRIBUTES, MAX_AXIOMS, MAX_CLASSES, MAX_CONSTANTS};
 
 /// Schema X of document 01: classes Strap and Person, the attribute wears.
 pub const STRAP: u16 = 0;
@@ -10,27 +10,27 @@ pub const PERSON: u16 = 1;
 pub const WEARS: u16 = 0;
 
 pub fn straps() -> Vec<u16> {
-    let alphabet = Alphabet {
+    let signature = Signature {
         classes: 2,
         attributes: 1,
         constants: 1,
     };
     let axioms = [single(PERSON, WEARS), relates(WEARS, PERSON, STRAP)];
-    schema(alphabet, &axioms)
+    schema(signature, &axioms)
 }
 
 /// Each person wears something: no more is said.
 pub fn need() -> Vec<u16> {
-    let alphabet = Alphabet {
+    let signature = Signature {
         classes: 2,
         attributes: 1,
         constants: 0,
     };
-    schema(alphabet, &[needs(PERSON, WEARS)])
+    schema(signature, &[necessary(PERSON, WEARS)])
 }
 
 /// The medical schema of the report, figure 6.
-pub const MEDICAL: Alphabet = Alphabet {
+pub const MEDICAL: Signature = Signature {
     classes: 9,
     attributes: 5,
     constants: 0,
@@ -52,15 +52,15 @@ pub const SKILLED_IN: u16 = 4;
 
 pub fn medical() -> Vec<u16> {
     let axioms = [
-        includes(PATIENT, HUMAN),
-        types(PATIENT, TAKES, DRUG),
-        types(PATIENT, CONSULTS, DOCTOR),
-        types(PATIENT, SUFFERS, DISEASE),
-        needs(PATIENT, SUFFERS),
-        types(HUMAN, NAME, STRING),
-        needs(HUMAN, NAME),
+        subclass(PATIENT, HUMAN),
+        typing(PATIENT, TAKES, DRUG),
+        typing(PATIENT, CONSULTS, DOCTOR),
+        typing(PATIENT, SUFFERS, DISEASE),
+        necessary(PATIENT, SUFFERS),
+        typing(HUMAN, NAME, STRING),
+        necessary(HUMAN, NAME),
         single(HUMAN, NAME),
-        types(DOCTOR, SKILLED_IN, DISEASE),
+        typing(DOCTOR, SKILLED_IN, DISEASE),
         relates(SKILLED_IN, HUMAN, TOPIC),
     ];
     schema(MEDICAL, &axioms)
@@ -68,38 +68,38 @@ pub fn medical() -> Vec<u16> {
 
 /// Two classes and one attribute, for states that are nearly all pairs.
 pub fn dense() -> Vec<u16> {
-    let alphabet = Alphabet {
+    let signature = Signature {
         classes: 2,
         attributes: 1,
         constants: 0,
     };
-    schema(alphabet, &[relates(0, 0, 1), needs(0, 0)])
+    schema(signature, &[relates(0, 0, 1), necessary(0, 0)])
 }
 
-pub const LARGEST: Alphabet = Alphabet {
-    classes: MOST_CLASSES,
-    attributes: MOST_ATTRIBUTES,
-    constants: MOST_CONSTANTS,
+pub const LARGEST: Signature = Signature {
+    classes: MAX_CLASSES,
+    attributes: MAX_ATTRIBUTES,
+    constants: MAX_CONSTANTS,
 };
 /// The class of the largest schema that nothing is forced into.
-pub const FREE: u16 = MOST_CLASSES - 1;
+pub const FREE: u16 = MAX_CLASSES - 1;
 
 /// All classes but the last in a chain, whose first class needs every attribute
 /// with values in it again; the last class has single values of all attributes
 /// but one, and typings fill the rest.
 pub fn largest() -> Vec<u16> {
-    let attributes = 0..MOST_ATTRIBUTES;
+    let attributes = 0..MAX_ATTRIBUTES;
     let chain = 0..FREE - 1;
-    let mut axioms: Vec<_> = chain.map(|class| includes(class, class + 1)).collect();
+    let mut axioms: Vec<_> = chain.map(|class| subclass(class, class + 1)).collect();
     for attribute in attributes.clone() {
-        axioms.extend([needs(0, attribute), types(0, attribute, 0)]);
+        axioms.extend([necessary(0, attribute), typing(0, attribute, 0)]);
         axioms.push(relates(attribute, 0, 1));
     }
-    axioms.extend((1..MOST_ATTRIBUTES).map(|attribute| single(FREE, attribute)));
+    axioms.extend((1..MAX_ATTRIBUTES).map(|attribute| single(FREE, attribute)));
     let mut fill = (0..FREE).flat_map(|class| {
-        let types = move |attribute| types(class, attribute, (class + 1) % FREE);
-        attributes.clone().map(types)
+        let typing = move |attribute| typing(class, attribute, (class + 1) % FREE);
+        attributes.clone().map(typing)
     });
-    axioms.extend(fill.by_ref().take(MOST_AXIOMS - axioms.len()));
+    axioms.extend(fill.by_ref().take(MAX_AXIOMS - axioms.len()));
     schema(LARGEST, &axioms)
 }

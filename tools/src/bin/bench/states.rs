@@ -1,8 +1,9 @@
 //! The states of the inputs.
 
 use crate::schemas::{LARGEST, PERSON, STRAP, WEARS};
-use tools::record::fact::{member, named, pair};
-use tools::record::{state, Alphabet, Pair, MOST_FACTS, MOST_OBJECTS};
+use bikuvoa::layout::fact::{member, name, pair};
+use bikuvoa::layout::{state, Pair, Signature, MAX_FACTS, MAX_OBJECTS};
+use tools::word;
 
 /// State S of document 01.
 pub fn straps() -> Vec<u16> {
@@ -12,38 +13,38 @@ pub fn straps() -> Vec<u16> {
         member(PERSON, 1),
         pair(WEARS, 0, 2),
         pair(WEARS, 1, 2),
-        named(0, 0),
+        name(0, 0),
     ];
     state(3, &facts)
 }
 
 /// Every object in all classes, with one value of every attribute: whatever the
 /// axioms, the state obeys them, so a search for a broken one goes through all.
-pub fn all_alike(objects: usize, alphabet: Alphabet) -> Vec<u16> {
-    state(objects, &alike(objects, alphabet))
+pub fn all_alike(objects: u16, signature: Signature) -> Vec<u16> {
+    state(objects, &alike(objects, signature))
 }
 
 /// As `all_alike` for the largest schema, with more values of attribute 0, the
 /// one that need not be single, until no further fact fits.
 pub fn largest() -> Vec<u16> {
-    let mut facts = alike(MOST_OBJECTS, LARGEST);
-    let more = MOST_FACTS - facts.len();
-    facts.extend((0..more).map(|far| pair(0, 0, 2 + far)));
+    let mut facts = alike(MAX_OBJECTS, LARGEST);
+    let more = MAX_FACTS - facts.len();
+    facts.extend((2..).take(more).map(|far| pair(0, 0, far)));
     facts.sort_unstable();
-    state(MOST_OBJECTS, &facts)
+    state(MAX_OBJECTS, &facts)
 }
 
-fn alike(objects: usize, alphabet: Alphabet) -> Vec<Pair> {
+fn alike(objects: u16, signature: Signature) -> Vec<Pair> {
     let mut facts = Vec::new();
-    for class in 0..alphabet.classes {
+    for class in 0..signature.classes {
         facts.extend((0..objects).map(|object| member(class, object)));
     }
-    for attribute in 0..alphabet.attributes {
-        let next = |object| (object + 1 + usize::from(attribute)) % objects;
+    for attribute in 0..signature.attributes {
+        let next = |object| (object + 1 + attribute) % objects;
         facts.extend((0..objects).map(|object| pair(attribute, object, next(object))));
     }
-    for constant in 0..alphabet.constants {
-        facts.push(named(constant, constant.into()));
+    for constant in 0..signature.constants {
+        facts.push(name(constant, constant));
     }
     facts
 }
@@ -52,13 +53,13 @@ fn alike(objects: usize, alphabet: Alphabet) -> Vec<Pair> {
 pub fn dense() -> Vec<u16> {
     let mut facts = Vec::new();
     for class in 0..2 {
-        facts.extend((0..MOST_OBJECTS).map(|object| member(class, object)));
+        facts.extend((0..MAX_OBJECTS).map(|object| member(class, object)));
     }
-    let pairs = (0..MOST_FACTS - facts.len()).map(|number| {
-        let (far, object) = (number / MOST_OBJECTS, number % MOST_OBJECTS);
-        pair(0, object, (object + far) % MOST_OBJECTS)
+    let pairs = (0..word(MAX_FACTS - facts.len())).map(|number| {
+        let (far, object) = (number / MAX_OBJECTS, number % MAX_OBJECTS);
+        pair(0, object, (object + far) % MAX_OBJECTS)
     });
     facts.extend(pairs);
     facts.sort_unstable();
-    state(MOST_OBJECTS, &facts)
+    state(MAX_OBJECTS, &facts)
 }

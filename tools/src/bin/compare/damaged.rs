@@ -1,16 +1,17 @@
 //! Damaged records at each place of each entry.
 
 use crate::verify::{verify, Difference};
+use bikuvoa::layout::DECIDE_WORDS;
+use bikuvoa::Refusal;
 use std::fmt;
 use tools::call::{Answerer, Call, Entry};
 use tools::draw::damage::damage;
 use tools::draw::state;
 use tools::draw::triple::Triple;
 use tools::prng::Prng;
-use tools::record::DECIDE_WORDS;
 
 /// The highest number of a refusal.
-const REFUSALS: usize = 11;
+const REFUSALS: usize = Refusal::LAST.number() as usize;
 
 /// How many calls got each number; 0 is damage that did no harm.
 #[derive(Default)]
@@ -56,7 +57,7 @@ pub fn run(tested: &dyn Answerer, prng: &mut Prng, count: usize) -> Result<Tally
 /// A call that is not refused, with no lent word to spare.
 fn sound(prng: &mut Prng, entry: Entry, triple: &Triple) -> Call {
     let (schema, query) = triple.decoded();
-    let state = state::state(prng, triple.alphabet, &schema, &query);
+    let state = state::state(prng, triple.signature, &schema, &query);
     let lent = match entry {
         Entry::Decide => DECIDE_WORDS,
         _ => state.objects,

@@ -1,10 +1,10 @@
 //! Makes a call that is answered wrongly smaller, as long as it still is.
 
+use bikuvoa::layout::token::{self, EVERYTHING};
+use bikuvoa::layout::{self, Layout, Pair};
 use std::ops::Range;
 use std::time::{Duration, Instant};
 use tools::call::{Call, Place};
-use tools::record::token::EVERYTHING;
-use tools::record::{self, Layout, Pair};
 
 /// How long smaller calls are looked for.
 const PATIENCE: Duration = Duration::from_secs(15);
@@ -33,7 +33,7 @@ impl Shrinker<'_> {
         let mut helped = false;
         for &place in self.call.entry.places() {
             helped |= match place {
-                Place::Schema | Place::State => self.drop_parts(place),
+                Place::Schema | Place::State => self.drop_entries(place),
                 Place::Query | Place::View => self.replace_tokens(place),
                 Place::Lent => self.lend_fewer(),
             };
@@ -64,20 +64,23 @@ impl Shrinker<'_> {
         self.call.record(place).unwrap_or_default().to_vec()
     }
 
-    fn parts(&self, place: Place) -> Option<(&'static Layout, Vec<Pair>)> {
+    fn entries(&self, place: Place) -> Option<(&'static Layout, Vec<Pair>)> {
         let layout = place.layout()?;
-        let parts = layout.parts(self.call.record(place)?)?;
-        Some((layout, parts))
+        let entries = layout.entries(self.call.record(place)?)?;
+        Some((layout, entries.collect()))
+    }
+
+    fn count(&self, place: Place) -> usize {
+        self.entries(place).map_or(0, |(_, entries)| entries.len())
     }
 
     /// Drops runs of axioms or facts: halves first, single ones last.
-    fn drop_parts(&mut self, place: Place) -> bool {
-        let count = |shrinker: &Self| shrinker.parts(place).map_or(0, |(_, parts)| parts.len());
+    fn drop_entries(&mut self, place: Place) -> bool {
         let mut helped = false;
-        let mut run = count(self);
+        let mut run = self.count(place);
         while run > 0 {
             let mut at = 0;
-            while at < count(self) {
+            while at < self.count(place) {
                 let dropped = self.drop_run(place, at, run);
                 helped |= dropped;
                 at += if dropped { 0 } else { run };
@@ -88,21 +91,20 @@ impl Shrinker<'_> {
     }
 
     fn drop_run(&mut self, place: Place, at: usize, run: usize) -> bool {
-        let Some((layout, mut parts)) = self.parts(place) else {
+        let Some((layout, mut entries)) = self.entries(place) else {
             return false;
         };
-        parts.drain(at..parts.len().min(at + run));
-        let words = layout.record(&self.words(place), &parts);
+        entries.drain(at..entries.len().min(at + run));
+        let words = layout.record(&self.words(place), &entries);
         self.take(place, words)
     }
 
     /// Puts nothing, or one leaf, for a run of tokens: long runs first.
     fn replace_tokens(&mut self, place: Place) -> bool {
         let mut helped = false;
-        let most = self.parts(place).map_or(0, |(_, tokens)| tokens.len());
-        for run in (1..=most).rev() {
+        for run in (1..=self.count(place)).rev() {
             let mut at = 0;
-            while let Some((_, tokens)) = self.parts(place) {
+            while let Some((_, tokens)) = self.entries(place) {
                 if at + run > tokens.len() {
                     break;
                 }
@@ -115,15 +117,16 @@ impl Shrinker<'_> {
 
     /// The leaf is "everything" or one that stands in the run.
     fn replace_run(&mut self, place: Place, tokens: &[Pair], run: Range<usize>) -> bool {
-        let own = tokens[run.clone()].iter().filter(|(sort, _)| *sort <= 3);
-        let leaves = [EVERYTHING].into_iter().chain(own.copied());
-        let mut parts = vec![Vec::new()];
-        parts.extend(leaves.map(|leaf| vec![leaf]));
-        parts.into_iter().any(|part| {
-            let shorter = part.len() < run.len();
+        let own = tokens[run.clone()].iter().copied();
+        let own = own.filter(|&token| token::is_leaf(token));
+        let leaves = [EVERYTHING].into_iter().chain(own);
+        let mut instead = vec![Vec::new()];
+        instead.extend(leaves.map(|leaf| vec![leaf]));
+        instead.into_iter().any(|instead| {
+            let shorter = instead.len() < run.len();
             let mut tokens = tokens.to_vec();
-            tokens.splice(run.clone(), part);
-            shorter && self.take(place, record::concept(&tokens))
+            tokens.splice(run.clone(), instead);
+            shorter && self.take(place, layout::concept(&tokens))
         })
     }
 

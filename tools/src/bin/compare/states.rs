@@ -34,7 +34,7 @@ pub fn run(tested: &dyn Answerer, prng: &mut Prng, count: usize) -> Result<Tally
     while tally.states < count {
         let triple = Triple::random(prng);
         let (schema, query) = triple.decoded();
-        let state = state::state(prng, triple.alphabet, &schema, &query);
+        let state = state::state(prng, triple.signature, &schema, &query);
         judge(tested, prng, &triple, &state, &mut tally)?;
     }
     Ok(tally)

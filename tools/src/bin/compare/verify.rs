@@ -2,6 +2,7 @@
 //! written state is the counterexample that it claims to be.
 
 use crate::outcome::{expected, Expected, Outcome};
+use bikuvoa::layout::STATE;
 use reference::records::{self, QUERY_STEPS, VIEW_STEPS};
 use reference::semantics::{first_broken, selected};
 use tools::call::{Answerer, Call, Entry};
@@ -79,7 +80,7 @@ fn check_open(call: &Call, seen: &Outcome) -> Result<(), String> {
     if seen.outs[0] == 0 {
         return Err("held and not open".to_string());
     }
-    let length = 2 + 2 * usize::from(seen.words[1]);
+    let length = STATE.length(&seen.words).unwrap_or(usize::MAX);
     if length > call.lent {
         return Err(format!("a state of {length} words in {}", call.lent));
     }

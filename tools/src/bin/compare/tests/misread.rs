@@ -2,10 +2,10 @@
 //! the inputs must be such that this matters.
 
 use super::{state_difference, triple_difference};
+use bikuvoa::layout::token::{BACKWARD, CONSTANT, EVERYTHING, FORWARD};
+use bikuvoa::layout::{self, axiom, Pair, CONCEPT, SCHEMA};
 use tools::call::{Answerer, Call};
 use tools::proved::Proved;
-use tools::record::token::{self, BACKWARD, EVERYTHING, FORWARD};
-use tools::record::{self, Pair, CONCEPT, SCHEMA};
 
 struct Misread(fn(&mut Call));
 
@@ -24,9 +24,9 @@ fn assert_found(misread: fn(&mut Call)) {
 }
 
 fn keep_axioms(call: &mut Call, kept: impl Fn(usize, Pair) -> bool) {
-    if let Some(axioms) = SCHEMA.parts(&call.schema) {
-        let axioms = axioms.into_iter().enumerate();
+    if let Some(axioms) = SCHEMA.entries(&call.schema) {
         let axioms: Vec<Pair> = axioms
+            .enumerate()
             .filter(|&(place, axiom)| kept(place, axiom))
             .map(|(_, axiom)| axiom)
             .collect();
@@ -35,14 +35,14 @@ fn keep_axioms(call: &mut Call, kept: impl Fn(usize, Pair) -> bool) {
 }
 
 fn without_kind(call: &mut Call, kind: u16) {
-    keep_axioms(call, |_, (left, _)| left / 256 != kind);
+    keep_axioms(call, |_, axiom| axiom::kind(axiom) != kind);
 }
 
 fn alter_tokens(call: &mut Call, alter: fn(Pair) -> Pair) {
     for words in [&mut call.query, &mut call.view] {
-        if let Some(tokens) = CONCEPT.parts(words) {
-            let tokens: Vec<Pair> = tokens.into_iter().map(alter).collect();
-            *words = record::concept(&tokens);
+        if let Some(tokens) = CONCEPT.entries(words) {
+            let tokens: Vec<Pair> = tokens.map(alter).collect();
+            *words = layout::concept(&tokens);
         }
     }
 }
@@ -53,28 +53,28 @@ fn the_first_axiom_only() {
 }
 
 #[test]
-fn no_inclusions() {
-    assert_found(|call| without_kind(call, 1));
+fn no_subclasses() {
+    assert_found(|call| without_kind(call, axiom::SUBCLASS));
 }
 
 #[test]
 fn no_typed_values() {
-    assert_found(|call| without_kind(call, 2));
+    assert_found(|call| without_kind(call, axiom::TYPING));
 }
 
 #[test]
-fn no_needs() {
-    assert_found(|call| without_kind(call, 3));
+fn no_necessary_values() {
+    assert_found(|call| without_kind(call, axiom::NECESSARY));
 }
 
 #[test]
 fn no_single_values() {
-    assert_found(|call| without_kind(call, 4));
+    assert_found(|call| without_kind(call, axiom::SINGLE));
 }
 
 #[test]
 fn no_domains_and_ranges() {
-    assert_found(|call| without_kind(call, 5));
+    assert_found(|call| without_kind(call, axiom::RELATES));
 }
 
 #[test]
@@ -91,7 +91,7 @@ fn backward_steps_taken_forward() {
 fn constants_taken_for_everything() {
     assert_found(|call| {
         alter_tokens(call, |token| match token {
-            token if token.0 == token::constant(0).0 => EVERYTHING,
+            (CONSTANT, _) => EVERYTHING,
             token => token,
         });
     });

@@ -4,10 +4,16 @@ use super::spoilt::{Spoil, Spoilt};
 use super::{damage_difference, state_difference, triple_difference};
 use crate::shrink::shrink;
 use crate::verify::{verify, Difference};
+use bikuvoa::layout::{self, Layout, Signature, CONCEPT, SCHEMA, STATE};
 use tools::call::{Call, Entry};
 
 fn smallest(spoil: Spoil, found: Difference) -> Call {
     shrink(found.call, &|call| verify(&Spoilt(spoil), call).is_err())
+}
+
+/// How many entries the record has, whose length must fit them.
+fn entries(layout: &Layout, words: &[u16]) -> usize {
+    layout.entries(words).expect("a record").count()
 }
 
 #[test]
@@ -21,9 +27,9 @@ fn of_a_wrong_verdict() {
     let found = triple_difference(&Spoilt(held_to_all));
     let call = smallest(held_to_all, *found);
     // No axiom, a query of one token, and a view of at most one step.
-    assert_eq!(call.schema[3], 0);
-    assert_eq!(call.query.len(), 4);
-    assert!(call.view.len() <= 10, "{:?}", call.view);
+    assert_eq!(entries(&SCHEMA, &call.schema), 0);
+    assert_eq!(entries(&CONCEPT, &call.query), 1);
+    assert!(entries(&CONCEPT, &call.view) <= 4, "{:?}", call.view);
 }
 
 #[test]
@@ -36,8 +42,8 @@ fn of_a_wrong_judgement() {
     let found = state_difference(&Spoilt(legal_to_all));
     let call = smallest(legal_to_all, *found);
     // One axiom and at most the three facts that break it.
-    assert_eq!(call.schema[3], 1);
-    assert!(call.state[1] <= 3, "{:?}", call.state);
+    assert_eq!(entries(&SCHEMA, &call.schema), 1);
+    assert!(entries(&STATE, &call.state) <= 3, "{:?}", call.state);
 }
 
 #[test]
@@ -50,6 +56,8 @@ fn of_a_wrong_refusal() {
     let found = damage_difference(&Spoilt(nine_for_ten));
     let call = smallest(nine_for_ten, *found);
     // One constant, no axiom, and no object.
-    assert_eq!(call.schema[2..], [1, 0]);
-    assert_eq!(call.state, [0, 0]);
+    let signature = Signature::of(&call.schema).expect("a schema");
+    assert_eq!(signature.constants, 1);
+    assert_eq!(entries(&SCHEMA, &call.schema), 0);
+    assert_eq!(call.state, layout::state(0, &[]));
 }

@@ -1,9 +1,9 @@
 //! Wrong answers, each the proved code's with one thing spoilt.
 
 use super::{damage_difference, state_difference, triple_difference};
+use bikuvoa::layout::{self, fact, Pair, DECIDE_WORDS, STATE};
 use tools::call::{Answerer, Call, Entry};
 use tools::proved::Proved;
-use tools::record::{fact, STATE};
 
 /// What the proved code left of a call, to be spoilt.
 pub struct Answer<'a> {
@@ -16,6 +16,9 @@ pub struct Answer<'a> {
     pub number: u16,
 }
 
+/// The last word that is lent for a decision.
+const LAST_WORD: usize = DECIDE_WORDS - 1;
+
 pub type Spoil = fn(&mut Answer);
 
 pub struct Spoilt(pub Spoil);
@@ -26,7 +29,7 @@ impl Answerer for Spoilt {
         let number = Proved.answer(call, lent, outs);
         let mut answer = Answer {
             entry: call.entry,
-            objects: call.state.first().copied().unwrap_or(0).into(),
+            objects: layout::objects(&call.state).unwrap_or(0).into(),
             before,
             lent,
             outs,
@@ -44,7 +47,7 @@ impl Answer<'_> {
 
     /// How many words the written state has.
     fn written(&self) -> usize {
-        2 + 2 * usize::from(self.lent[1])
+        STATE.length(self.lent).expect("a written state")
     }
 }
 
@@ -60,7 +63,8 @@ fn held_to_all() {
 #[test]
 fn open_with_one_stock_state() {
     triple_difference(&Spoilt(|answer| {
-        answer.lent[..2].copy_from_slice(&[1, 0]);
+        let stock = layout::state(1, &[]);
+        answer.lent[..stock.len()].copy_from_slice(&stock);
         *answer.outs = [1, 0];
     }));
 }
@@ -72,8 +76,9 @@ fn a_state_without_its_last_class_fact() {
             return;
         }
         let written = answer.lent[..answer.written()].to_vec();
-        let mut facts = STATE.parts(&written).expect("a written state");
-        let is_member = |&part: &_| fact::kind(part) < fact::ATTRIBUTES;
+        let facts = STATE.entries(&written).expect("a written state");
+        let mut facts: Vec<Pair> = facts.collect();
+        let is_member = |&entry: &_| fact::kind(entry) < fact::ATTRIBUTE_KINDS;
         if let Some(last) = facts.iter().rposition(is_member) {
             facts.remove(last);
         }
@@ -115,11 +120,14 @@ fn a_word_after_the_state() {
 fn the_last_lent_word_of_a_held_triple() {
     let found = triple_difference(&Spoilt(|answer| {
         if !answer.is_open() {
-            answer.lent[30_761] ^= 1;
+            answer.lent[LAST_WORD] ^= 1;
         }
     }));
     let fault = found.fault;
-    assert!(fault.starts_with("lent word 30761 "), "{fault}");
+    assert!(
+        fault.starts_with(&format!("lent word {LAST_WORD} ")),
+        "{fault}"
+    );
 }
 
 #[test]

@@ -1,0 +1,130 @@
+//! The four calls, on records of any words and on built ones.
+
+use crate::concept::{Query, View};
+use crate::layout::{DECIDE_WORDS, MAX_OBJECTS, STATE};
+use crate::raw;
+use crate::refusal::Refusal;
+use crate::schema::Schema;
+use crate::state::{Object, State};
+
+/// Whether a query may be read from a view.
+#[derive(Clone, Debug, PartialEq, Eq)]
+#[must_use]
+pub enum Decision {
+    /// In every legal state, of any size, each object of the query is in the
+    /// view. So the view's list has every object of the query, and it may have
+    /// more: filter it by the query, unless the view is held by the query too.
+    ///
+    /// A state that breaks an axiom is not spoken of. The store must keep the
+    /// axioms in force, or its lists may lack objects.
+    Held,
+    /// Some legal state has an object in the query that is outside the view:
+    /// this one, for example. The view must not serve the query.
+    Open { state: State, object: Object },
+    /// The first refusal that applies to the records.
+    Refused(Refusal),
+}
+
+impl Decision {
+    /// Whether the view may serve the query; not so if the call was refused.
+    pub fn is_held(&self) -> bool {
+        matches!(self, Decision::Held)
+    }
+}
+
+/// Whether a state obeys the axioms.
+#[derive(Clone, Copy, Debug, PartialEq, Eq)]
+pub enum Legality {
+    Legal,
+    /// The place of the first broken axiom in the schema, from 0.
+    Broken(usize),
+}
+
+/// The objects of the state that are in the query, ascending.
+pub fn select(schema: &[u16], query: &[u16], state: &[u16]) -> Result<Vec<Object>, Refusal> {
+    let mut lent = [0; MAX_OBJECTS as usize];
+    Refusal::check(raw::select(schema, query, state, &mut lent, &mut 0))?;
+    // Words past the state's objects are left at 0.
+    let marks = (0..).map(Object).zip(lent);
+    let marked = marks.filter(|&(_, mark)| mark == 1);
+    Ok(marked.map(|(object, _)| object).collect())
+}
+
+/// Whether the state is legal.
+pub fn legal(schema: &[u16], state: &[u16]) -> Result<Legality, Refusal> {
+    let mut broken = 0;
+    Refusal::check(raw::legal(schema, state, &mut broken))?;
+    Ok(match broken.checked_sub(1) {
+        None => Legality::Legal,
+        Some(place) => Legality::Broken(place as usize),
+    })
+}
+
+/// The lowest object in the query and outside the view, if the state is legal
+/// and has one.
+pub fn counterexample(
+    schema: &[u16],
+    query: &[u16],
+    view: &[u16],
+    state: &[u16],
+) -> Result<Option<Object>, Refusal> {
+    let mut found = 0;
+    Refusal::check(raw::counterexample(schema, query, view, state, &mut found))?;
+    Ok(found.checked_sub(1).map(object))
+}
+
+/// Whether the query may be read from the view.
+pub fn decide(schema: &[u16], query: &[u16], view: &[u16]) -> Decision {
+    let mut lent = vec![0; DECIDE_WORDS];
+    let (mut objects, mut found) = (0, 0);
+    let returned = raw::decide(schema, query, view, &mut lent, &mut objects, &mut found);
+    if let Err(refusal) = Refusal::check(returned) {
+        return Decision::Refused(refusal);
+    }
+    if objects == 0 {
+        return Decision::Held;
+    }
+    lent.truncate(STATE.length(&lent).unwrap_or(0));
+    lent.shrink_to_fit();
+    Decision::Open {
+        state: State(lent),
+        object: object(found),
+    }
+}
+
+/// An out value that is an object; all objects are far below a word's limit.
+fn object(number: u64) -> Object {
+    Object(number as u16)
+}
+
+/// The same calls on built records. They are refused only where a record was
+/// made for another schema.
+impl Schema {
+    /// The objects of the state that are in the query, ascending. A view may be
+    /// asked for as a query.
+    pub fn select(&self, query: &Query, state: &State) -> Result<Vec<Object>, Refusal> {
+        select(self.words(), query.words(), state.words())
+    }
+
+    /// Whether the state is legal.
+    pub fn legal(&self, state: &State) -> Result<Legality, Refusal> {
+        legal(self.words(), state.words())
+    }
+
+    /// The lowest object in the query and outside the view, if the state is
+    /// legal and has one.
+    pub fn counterexample(
+        &self,
+        query: &Query,
+        view: &View,
+        state: &State,
+    ) -> Result<Option<Object>, Refusal> {
+        counterexample(self.words(), query.words(), view.words(), state.words())
+    }
+
+    /// Whether the query may be read from the view; see [`Decision::Held`] for
+    /// what that allows.
+    pub fn decide(&self, query: &Query, view: &View) -> Decision {
+        decide(self.words(), query.words(), view.words())
+    }
+}

@@ -1,0 +1,82 @@
+//! What a builder does not build.
+
+use crate::schema::Constant;
+use crate::state::Object;
+use std::error::Error;
+use std::fmt;
+
+/// What a record is made of.
+#[derive(Clone, Copy, Debug, PartialEq, Eq, Hash)]
+pub enum Item {
+    Class,
+    Attribute,
+    Constant,
+    Axiom,
+    Token,
+    Step,
+    Object,
+    Fact,
+}
+
+/// Why a builder turned something down. Whatever it takes makes a record that
+/// the library accepts.
+#[derive(Clone, Debug, PartialEq, Eq)]
+#[non_exhaustive]
+pub enum BuildError {
+    /// More than the limit.
+    TooMany { what: Item, limit: usize },
+    /// A number that is not below the count of what is declared.
+    Undeclared { what: Item, number: u16 },
+    /// A name that is not declared.
+    UnknownName { what: Item, name: String },
+    /// A name that is declared already.
+    NameTaken { what: Item, name: String },
+    /// The constant names another object already.
+    NamesTwo(Constant),
+    /// Another constant names the object already.
+    NamedByTwo(Object),
+    /// The state is complete but for the constant's object.
+    NamesNone(Constant),
+}
+
+impl fmt::Display for Item {
+    fn fmt(&self, f: &mut fmt::Formatter) -> fmt::Result {
+        f.write_str(match self {
+            Item::Class => "class",
+            Item::Attribute => "attribute",
+            Item::Constant => "constant",
+            Item::Axiom => "axiom",
+            Item::Token => "token",
+            Item::Step => "step",
+            Item::Object => "object",
+            Item::Fact => "fact",
+        })
+    }
+}
+
+impl fmt::Display for BuildError {
+    fn fmt(&self, f: &mut fmt::Formatter) -> fmt::Result {
+        match self {
+            BuildError::TooMany { what, limit } => {
+                let plural = if *what == Item::Class { "es" } else { "s" };
+                write!(f, "there may be at most {limit} {what}{plural}")
+            }
+            BuildError::Undeclared { what, number } => write!(f, "there is no {what} {number}"),
+            BuildError::UnknownName { what, name } => write!(f, "no {what} is named {name:?}"),
+            BuildError::NameTaken { what, name } => {
+                write!(f, "{what} {name:?} is declared already")
+            }
+            BuildError::NamesTwo(Constant(number)) => {
+                write!(f, "constant {number} names another object already")
+            }
+            BuildError::NamedByTwo(Object(number)) => {
+                write!(f, "object {number} is another constant's already")
+            }
+            BuildError::NamesNone(Constant(number)) => {
+                write!(f, "constant {number} names no object")
+            }
+        }
+    }
+}
+
+impl Error for BuildError {}

@@ -1,0 +1,80 @@
+//! Whether a query may be read from a stored list (a view) instead of the whole
+//! store. The answers come from a library whose every function is proved to
+//! meet its contract; this crate calls it and builds its records. The crate
+//! itself is not proved.
+//!
+//! ```
+//! use bikuvoa::{Concept, Decision, Path, Query, SchemaBuilder, View};
+//!
+//! # fn main() -> Result<(), bikuvoa::BuildError> {
+//! // A rower wears a strap, and only persons wear straps.
+//! let mut builder = SchemaBuilder::new();
+//! let (person, rower) = (builder.class("Person")?, builder.class("Rower")?);
+//! let strap = builder.class("Strap")?;
+//! let wears = builder.attribute("wears")?;
+//! builder.necessary(rower, wears)?.relates(wears, person, strap)?;
+//! let schema = builder.build();
+//!
+//! // May rowers be looked for in a list of persons who wear a strap?
+//! let query = Query::new(&schema, &Concept::class(rower))?;
+//! let wearers = Path::empty().forward(wears, Concept::class(strap));
+//! let listed = Concept::both(Concept::class(person), Concept::reached(wearers));
+//! let view = View::new(&schema, &listed)?;
+//! assert_eq!(schema.decide(&query, &view), Decision::Held);
+//! # Ok(())
+//! # }
+//! ```
+//!
+//! # What an answer allows
+//!
+//! [`Decision::Held`] says that in every state that obeys the axioms each object
+//! of the query is in the view. The list then has every object of the query, and
+//! maybe more, so filter it by the query. Only where the query holds the view as
+//! well is the list the answer as it stands.
+//!
+//! The store must enforce the axioms. Nothing is said of a state that breaks
+//! one, and a list kept for such a state may lack objects. [`Schema::legal`]
+//! tells whether a state obeys them.
+//!
+//! # Records
+//!
+//! The library takes records of 16-bit words (docs/RECORDS.md).
+//! [`SchemaBuilder`], [`Query`], [`View`] and [`StateBuilder`] make records that
+//! it accepts; what cannot be is a [`BuildError`]. The functions [`select`],
+//! [`legal`], [`counterexample`] and [`decide`] take any words, and a faulty
+//! record is a [`Refusal`]. [`raw`] has the calls as C has them, and [`layout`]
+//! the numbers of the format.
+//!
+//! # Linking
+//!
+//! In the repository of the library, `rt staticlib bikuvoa_c` writes the archive
+//! that this crate links. Where the archive lies elsewhere, let the environment
+//! variable `BIKUVOA_LIB_DIR` name its folder.
+//!
+//! # Threads and memory
+//!
+//! The library keeps nothing between calls and uses no heap, so any number of
+//! threads may call it at once. [`raw::STACK_BYTES`] are enough stack. The calls
+//! of this crate lend it words from the heap; with [`raw`] the words are yours.
+
+#![deny(unsafe_code)]
+#![warn(missing_debug_implementations)]
+
+pub mod layout;
+#[allow(unsafe_code)]
+pub mod raw;
+
+mod calls;
+mod concept;
+mod error;
+mod refusal;
+mod schema;
+mod state;
+
+pub use calls::{counterexample, decide, legal, select, Decision, Legality};
+pub use concept::{Concept, Path, Query, Token, View};
+pub use error::{BuildError, Item};
+pub use layout::Signature;
+pub use refusal::Refusal;
+pub use schema::{Attribute, Axiom, Class, Constant, Schema, SchemaBuilder};
+pub use state::{Fact, Object, State, StateBuilder};

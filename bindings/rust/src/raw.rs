@@ -1,0 +1,154 @@
+//! The four functions as C has them (include/bikuvoa.h), on slices: any words
+//! may be passed. Each returns 0, or the number of the first refusal that
+//! applies; a refused call alters no lent word and no out value.
+//!
+//! This is the one module with unsafe code.
+
+extern "C" {
+    fn bikuvoa_select(
+        schema: *const u16,
+        schema_words: usize,
+        query: *const u16,
+        query_words: usize,
+        state: *const u16,
+        state_words: usize,
+        lent: *mut u16,
+        lent_words: usize,
+        selected: *mut u64,
+    ) -> u16;
+
+    fn bikuvoa_legal(
+        schema: *const u16,
+        schema_words: usize,
+        state: *const u16,
+        state_words: usize,
+        broken: *mut u64,
+    ) -> u16;
+
+    fn bikuvoa_counterexample(
+        schema: *const u16,
+        schema_words: usize,
+        query: *const u16,
+        query_words: usize,
+        view: *const u16,
+        view_words: usize,
+        state: *const u16,
+        state_words: usize,
+        found: *mut u64,
+    ) -> u16;
+
+    fn bikuvoa_decide(
+        schema: *const u16,
+        schema_words: usize,
+        query: *const u16,
+        query_words: usize,
+        view: *const u16,
+        view_words: usize,
+        lent: *mut u16,
+        lent_words: usize,
+        objects: *mut u64,
+        object: *mut u64,
+    ) -> u16;
+}
+
+/// Enough stack for any call. It is measured, not proved; a thread of the
+/// standard library has as much unless it was made with less.
+pub const STACK_BYTES: usize = 2 * 1024 * 1024;
+
+/// Lent word i becomes 1 if object i is in the query and 0 if not, for each
+/// object of the state; later words are unaltered. `selected` becomes how many
+/// are. Refused as 11 if there are fewer lent words than objects.
+pub fn select(
+    schema: &[u16],
+    query: &[u16],
+    state: &[u16],
+    lent: &mut [u16],
+    selected: &mut u64,
+) -> u16 {
+    // SAFETY: each pointer is a slice's, never null even if the slice is empty,
+    // and comes with that slice's length. What is written is borrowed mutably,
+    // so nothing else has it during the call, and nothing is kept after it.
+    unsafe {
+        bikuvoa_select(
+            schema.as_ptr(),
+            schema.len(),
+            query.as_ptr(),
+            query.len(),
+            state.as_ptr(),
+            state.len(),
+            lent.as_mut_ptr(),
+            lent.len(),
+            selected,
+        )
+    }
+}
+
+/// `broken` becomes 0 if every axiom holds in the state, and otherwise i + 1,
+/// where axiom i is the first broken one.
+pub fn legal(schema: &[u16], state: &[u16], broken: &mut u64) -> u16 {
+    // SAFETY: as for `select`.
+    unsafe {
+        bikuvoa_legal(
+            schema.as_ptr(),
+            schema.len(),
+            state.as_ptr(),
+            state.len(),
+            broken,
+        )
+    }
+}
+
+/// `found` becomes o + 1, where o is the lowest object in the query and outside
+/// the view, if the state is legal and has one, and otherwise 0.
+pub fn counterexample(
+    schema: &[u16],
+    query: &[u16],
+    view: &[u16],
+    state: &[u16],
+    found: &mut u64,
+) -> u16 {
+    // SAFETY: as for `select`.
+    unsafe {
+        bikuvoa_counterexample(
+            schema.as_ptr(),
+            schema.len(),
+            query.as_ptr(),
+            query.len(),
+            view.as_ptr(),
+            view.len(),
+            state.as_ptr(),
+            state.len(),
+            found,
+        )
+    }
+}
+
+/// If the view holds the query, `objects` becomes 0 and no lent word is
+/// altered. Otherwise the lent words begin with the record of a legal state of
+/// that many objects, in which `object` is in the query and outside the view;
+/// words after that record are unaltered. Refused as 11 if there are fewer lent
+/// words than [`DECIDE_WORDS`](crate::layout::DECIDE_WORDS).
+pub fn decide(
+    schema: &[u16],
+    query: &[u16],
+    view: &[u16],
+    lent: &mut [u16],
+    objects: &mut u64,
+    object: &mut u64,
+) -> u16 {
+    // SAFETY: as for `select`.
+    unsafe {
+        bikuvoa_decide(
+            schema.as_ptr(),
+            schema.len(),
+            query.as_ptr(),
+            query.len(),
+            view.as_ptr(),
+            view.len(),
+            lent.as_mut_ptr(),
+            lent.len(),
+            objects,
+            object,
+        )
+    }
+}

@@ -1,0 +1,340 @@
+//! What builders take comes out again, and what cannot be is turned down.
+
+use bikuvoa::{Attribute, Axiom, BuildError, Class, Concept, Constant, Fact, Item, Object, Path};
+use bikuvoa::{Query, Schema, SchemaBuilder, Signature, State, StateBuilder, Token, View};
+
+/// Classes Strap and Person, the attribute wears, and the constant captain.
+fn straps() -> SchemaBuilder {
+    let mut builder = SchemaBuilder::new();
+    let strap = builder.class("Strap").expect("a class");
+    let person = builder.class("Person").expect("a class");
+    let wears = builder.attribute("wears").expect("an attribute");
+    builder.constant("captain").expect("a constant");
+    builder.single(person, wears).expect("an axiom");
+    builder.relates(wears, person, strap).expect("an axiom");
+    builder
+}
+
+const STRAP: Class = Class(0);
+const PERSON: Class = Class(1);
+const WEARS: Attribute = Attribute(0);
+const CAPTAIN: Constant = Constant(0);
+
+#[test]
+fn a_schema_has_its_record_names_and_axioms() {
+    let schema = straps().build();
+    assert_eq!(schema.words(), [2, 1, 1, 2, 1025, 1280, 0, 256]);
+    assert_eq!(schema.class("Person"), Ok(PERSON));
+    assert_eq!(schema.attribute("wears"), Ok(WEARS));
+    assert_eq!(schema.constant("captain"), Ok(CAPTAIN));
+    assert_eq!(schema.class_name(STRAP), Some("Strap"));
+    assert_eq!(schema.attribute_name(WEARS), Some("wears"));
+    assert_eq!(schema.constant_name(CAPTAIN), Some("captain"));
+    assert_eq!(schema.class_name(Class(2)), None);
+    let axioms: Vec<Axiom> = schema.axioms().collect();
+    let expected = [
+        Axiom::Single {
+            class: PERSON,
+            attribute: WEARS,
+        },
+        Axiom::Relates {
+            attribute: WEARS,
+            domain: PERSON,
+            range: STRAP,
+        },
+    ];
+    assert_eq!(axioms, expected);
+}
+
+#[test]
+fn every_kind_of_axiom_comes_out_again() {
+    let signature = Signature {
+        classes: 3,
+        attributes: 2,
+        constants: 0,
+    };
+    let (class, attribute) = (Class(2), Attribute(1));
+    let axioms = [
+        Axiom::Subclass {
+            class,
+            superclass: Class(1),
+        },
+        Axiom::Typing {
+            class,
+            attribute,
+            values: Class(0),
+        },
+        Axiom::Necessary { class, attribute },
+        Axiom::Single { class, attribute },
+        Axiom::Relates {
+            attribute,
+            domain: class,
+            range: Class(1),
+        },
+    ];
+    let mut builder = SchemaBuilder::numbered(signature).expect("few enough");
+    for axiom in axioms {
+        builder.axiom(axiom).expect("an axiom");
+    }
+    let built = builder.build();
+    assert_eq!(built.signature(), signature);
+    assert_eq!(built.axioms().collect::<Vec<_>>(), axioms);
+    let read = Schema::from_words(built.words().to_vec()).expect("an accepted schema");
+    assert_eq!(read.signature(), signature);
+    assert_eq!(read.axioms().collect::<Vec<_>>(), axioms);
+    assert_eq!(read.class_name(class), None);
+}
+
+#[test]
+fn names_are_unknown_or_taken() {
+    let mut builder = straps();
+    let taken = BuildError::NameTaken {
+        what: Item::Class,
+        name: "Strap".to_string(),
+    };
+    assert_eq!(taken.to_string(), "class \"Strap\" is declared already");
+    assert_eq!(builder.class("Strap"), Err(taken));
+    // An attribute may have the name of a class.
+    assert_eq!(builder.attribute("Strap"), Ok(Attribute(1)));
+    let unknown = BuildError::UnknownName {
+        what: Item::Attribute,
+        name: "Person".to_string(),
+    };
+    assert_eq!(unknown.to_string(), "no attribute is named \"Person\"");
+    assert_eq!(builder.build().attribute("Person"), Err(unknown));
+}
+
+fn undeclared<T>(what: Item, number: u16) -> Result<T, BuildError> {
+    Err(BuildError::Undeclared { what, number })
+}
+
+#[test]
+fn axioms_name_what_is_declared() {
+    let mut builder = straps();
+    let (other, far) = (Class(2), Attribute(1));
+    for (axiom, what, number) in [
+        (
+            Axiom::Subclass {
+                class: STRAP,
+                superclass: other,
+            },
+            Item::Class,
+            2,
+        ),
+        (
+            Axiom::Typing {
+                class: STRAP,
+                attribute: far,
+                values: STRAP,
+            },
+            Item::Attribute,
+            1,
+        ),
+        (
+            Axiom::Necessary {
+                class: other,
+                attribute: WEARS,
+            },
+            Item::Class,
+            2,
+        ),
+        (
+            Axiom::Single {
+                class: STRAP,
+                attribute: far,
+            },
+            Item::Attribute,
+            1,
+        ),
+        (
+            Axiom::Relates {
+                attribute: WEARS,
+                domain: STRAP,
+                range: Class(u16::MAX),
+            },
+            Item::Class,
+            u16::MAX,
+        ),
+    ] {
+        assert_eq!(builder.axiom(axiom).map(|_| ()), undeclared(what, number));
+    }
+    assert_eq!(builder.build(), straps().build());
+}
+
+/// The object itself is reached there and back, past a strap and the captain.
+fn there_and_back() -> Concept {
+    let path = Path::empty()
+        .forward(WEARS, Concept::class(STRAP))
+        .backward(WEARS, Concept::constant(CAPTAIN));
+    let itself = Concept::common(path, Path::empty());
+    let worn = Path::empty().forward(WEARS, Concept::everything());
+    Concept::both(itself, Concept::reached(worn))
+}
+
+#[test]
+fn a_concept_is_its_tokens_in_postfix_order() {
+    let concept = there_and_back();
+    let expected = [
+        Token::Empty,
+        Token::Class(STRAP),
+        Token::Forward(WEARS),
+        Token::Constant(CAPTAIN),
+        Token::Backward(WEARS),
+        Token::Empty,
+        Token::Common,
+        Token::Empty,
+        Token::Everything,
+        Token::Forward(WEARS),
+        Token::Reached,
+        Token::Both,
+    ];
+    assert_eq!(concept.tokens(), expected);
+    let schema = straps().build();
+    let query = Query::new(&schema, &concept).expect("a query");
+    let lefts = [5, 1, 6, 3, 7, 5, 9, 5, 2, 6, 8, 4];
+    assert_eq!(query.words()[..2], [12, 3]);
+    assert_eq!(query.words()[2..14], lefts);
+    assert_eq!(query.words()[14..], [0; 12]);
+    assert_eq!(query.concept(), concept);
+}
+
+#[test]
+fn queries_and_views_come_out_again() {
+    let schema = straps().build();
+    let view = View::new(&schema, &there_and_back()).expect("a view");
+    let read = View::from_words(&schema, view.words().to_vec());
+    assert_eq!(read, Ok(view.clone()));
+    assert_eq!(view.concept(), there_and_back());
+    let query = Query::new(&schema, &there_and_back()).expect("a query");
+    let read = Query::from_words(&schema, query.words().to_vec());
+    assert_eq!(read, Ok(query.clone()));
+    assert_eq!(Query::from(view), query);
+}
+
+#[test]
+fn concepts_name_what_is_declared() {
+    let schema = straps().build();
+    for (concept, what, number) in [
+        (Concept::class(Class(2)), Item::Class, 2),
+        (Concept::constant(Constant(1)), Item::Constant, 1),
+        (
+            Concept::reached(Path::empty().forward(Attribute(7), Concept::everything())),
+            Item::Attribute,
+            7,
+        ),
+        (
+            Concept::reached(Path::empty().backward(Attribute(8), Concept::everything())),
+            Item::Attribute,
+            8,
+        ),
+    ] {
+        assert_eq!(Query::new(&schema, &concept), undeclared(what, number));
+        assert_eq!(View::new(&schema, &concept), undeclared(what, number));
+    }
+}
+
+/// Objects 0 and 1 are persons who wear strap 2, and 0 is the captain.
+fn worn() -> StateBuilder {
+    let mut builder = StateBuilder::new(&straps().build());
+    for _ in 0..3 {
+        builder.object().expect("an object");
+    }
+    let facts = [
+        Fact::Name {
+            constant: CAPTAIN,
+            object: Object(0),
+        },
+        Fact::Pair {
+            attribute: WEARS,
+            first: Object(1),
+            second: Object(2),
+        },
+        Fact::Pair {
+            attribute: WEARS,
+            first: Object(0),
+            second: Object(2),
+        },
+        Fact::Member {
+            class: PERSON,
+            object: Object(1),
+        },
+        Fact::Member {
+            class: PERSON,
+            object: Object(0),
+        },
+        Fact::Member {
+            class: STRAP,
+            object: Object(2),
+        },
+    ];
+    // A fact may be given twice.
+    for fact in facts.into_iter().chain(facts) {
+        builder.fact(fact).expect("a fact");
+    }
+    builder
+}
+
+#[test]
+fn a_state_has_its_facts_in_order() {
+    let state = worn().build().expect("a state");
+    let words = [3, 6, 2, 512, 513, 12288, 12289, 16384, 0, 0, 0, 2, 2, 0];
+    assert_eq!(state.words(), words);
+    assert_eq!(state.objects(), 3);
+    let mut again = StateBuilder::new(&straps().build());
+    for _ in 0..state.objects() {
+        again.object().expect("an object");
+    }
+    for fact in state.facts() {
+        again.fact(fact).expect("a fact");
+    }
+    assert_eq!(again.build(), Ok(state.clone()));
+    assert_eq!(state.facts().count(), 6);
+    let first = Fact::Member {
+        class: STRAP,
+        object: Object(2),
+    };
+    assert_eq!(state.facts().next(), Some(first));
+    let read = State::from_words(&straps().build(), words.to_vec());
+    assert_eq!(read, Ok(state));
+}
+
+#[test]
+fn facts_name_what_is_there() {
+    let mut builder = worn();
+    let (here, there) = (Object(0), Object(3));
+    let no_class = builder.member(Class(2), here).map(|_| ());
+    assert_eq!(no_class, undeclared(Item::Class, 2));
+    let no_object = builder.member(PERSON, there).map(|_| ());
+    assert_eq!(no_object, undeclared(Item::Object, 3));
+    let no_attribute = builder.pair(Attribute(1), here, here).map(|_| ());
+    assert_eq!(no_attribute, undeclared(Item::Attribute, 1));
+    let no_first = builder.pair(WEARS, there, here).map(|_| ());
+    assert_eq!(no_first, undeclared(Item::Object, 3));
+    let no_second = builder.pair(WEARS, here, there).map(|_| ());
+    assert_eq!(no_second, undeclared(Item::Object, 3));
+    let no_constant = builder.name(Constant(1), here).map(|_| ());
+    assert_eq!(no_constant, undeclared(Item::Constant, 1));
+    assert_eq!(builder.build(), worn().build());
+}
+
+#[test]
+fn each_constant_names_one_object_of_its_own() {
+    let mut schema = straps();
+    let stroke = schema.constant("stroke").expect("a constant");
+    let schema = schema.build();
+    let mut builder = StateBuilder::new(&schema);
+    let one = builder.object().expect("an object");
+    let other = builder.object().expect("an object");
+    assert_eq!(builder.build(), Err(BuildError::NamesNone(CAPTAIN)));
+    builder.name(CAPTAIN, one).expect("a name");
+    builder.name(CAPTAIN, one).expect("the same name");
+    assert_eq!(builder.build(), Err(BuildError::NamesNone(stroke)));
+    let two = builder.name(CAPTAIN, other).map(|_| ());
+    assert_eq!(two, Err(BuildError::NamesTwo(CAPTAIN)));
+    let shared = builder.name(stroke, one).map(|_| ());
+    assert_eq!(shared, Err(BuildError::NamedByTwo(one)));
+    builder.name(stroke, other).expect("a name");
+    let state = builder.build().expect("a state");
+    let read = State::from_words(&schema, state.words().to_vec());
+    assert_eq!(read, Ok(state));
+}

@@ -1,0 +1,321 @@
+//! The calls: the twelve small states, refusals on raw words, and threads.
+
+use bikuvoa::layout::{self, axiom, fact, token, Signature};
+use bikuvoa::{counterexample, decide, legal, raw, select};
+use bikuvoa::{Attribute, Class, Concept, Constant, Decision, Legality, Object, Path, Query};
+use bikuvoa::{Refusal, Schema, SchemaBuilder, State, StateBuilder, View};
+
+const STRAP: Class = Class(0);
+const PERSON: Class = Class(1);
+const WEARS: Attribute = Attribute(0);
+const CONSTANT: Constant = Constant(0);
+
+const STRAPS: Signature = Signature {
+    classes: 2,
+    attributes: 1,
+    constants: 1,
+};
+
+/// A person wears at most one thing, and only persons wear, and only straps.
+fn straps() -> SchemaBuilder {
+    let mut builder = SchemaBuilder::numbered(STRAPS).expect("few enough");
+    builder.single(PERSON, WEARS).expect("an axiom");
+    builder.relates(WEARS, PERSON, STRAP).expect("an axiom");
+    builder
+}
+
+/// Persons 0 and 1 wear strap 2, and the constant names 0.
+fn worn(schema: &Schema) -> State {
+    let mut builder = StateBuilder::new(schema);
+    let objects = [(); 3].map(|()| builder.object().expect("an object"));
+    let [one, other, strap] = objects;
+    for person in [one, other] {
+        builder.member(PERSON, person).expect("a fact");
+        builder.pair(WEARS, person, strap).expect("a fact");
+    }
+    builder.member(STRAP, strap).expect("a fact");
+    builder.name(CONSTANT, one).expect("a fact");
+    builder.build().expect("a state")
+}
+
+#[test]
+fn the_small_selections() {
+    let schema = straps().build();
+    let state = worn(&schema);
+    let (all, constant) = (Concept::everything(), Concept::constant(CONSTANT));
+    let to = |landing: &Concept| Path::empty().forward(WEARS, landing.clone());
+    let strap = Concept::class(STRAP);
+    let back = to(&all).backward(WEARS, constant.clone());
+    for (concept, expected) in [
+        (all.clone(), vec![0, 1, 2]),
+        (constant, vec![0]),
+        (Concept::reached(to(&strap)), vec![0, 1]),
+        (
+            Concept::reached(Path::empty().backward(WEARS, all.clone())),
+            vec![2],
+        ),
+        (Concept::reached(back.clone()), vec![0, 1]),
+        (Concept::common(back, Path::empty()), vec![0]),
+        (Concept::reached(Path::empty()), vec![0, 1, 2]),
+        (Concept::both(Concept::class(PERSON), strap.clone()), vec![]),
+        (Concept::common(to(&all), to(&strap)), vec![0, 1]),
+    ] {
+        let query = Query::new(&schema, &concept).expect("a query");
+        let expected = expected.into_iter().map(Object).collect();
+        assert_eq!(schema.select(&query, &state), Ok(expected), "{concept:?}");
+    }
+}
+
+#[test]
+fn the_small_judgements() {
+    let mut builder = straps();
+    let schema = builder.build();
+    let state = worn(&schema);
+    assert_eq!(schema.legal(&state), Ok(Legality::Legal));
+    builder.necessary(STRAP, WEARS).expect("an axiom");
+    let stricter = builder.build();
+    assert_eq!(stricter.legal(&state), Ok(Legality::Broken(2)));
+
+    let nothing = SchemaBuilder::new().build();
+    let empty = StateBuilder::new(&nothing).build().expect("a state");
+    assert_eq!(nothing.legal(&empty), Ok(Legality::Legal));
+    let all = Query::new(&nothing, &Concept::everything()).expect("a query");
+    assert_eq!(nothing.select(&all, &empty), Ok(Vec::new()));
+    assert!(State::from_words(&nothing, empty.words().to_vec()).is_ok());
+
+    let everything = Query::new(&schema, &Concept::everything()).expect("a query");
+    let person = View::new(&schema, &Concept::class(PERSON)).expect("a view");
+    let found = schema.counterexample(&everything, &person, &state);
+    assert_eq!(found, Ok(Some(Object(2))));
+    // A state that breaks an axiom disproves nothing.
+    let found = stricter.counterexample(&everything, &person, &state);
+    assert_eq!(found, Ok(None));
+}
+
+/// A schema, a concept and a state that are accepted.
+struct Words {
+    schema: Vec<u16>,
+    concept: Vec<u16>,
+    state: Vec<u16>,
+}
+
+fn words() -> Words {
+    let schema = straps().build();
+    Words {
+        schema: schema.words().to_vec(),
+        concept: layout::concept(&[token::EVERYTHING]),
+        state: worn(&schema).words().to_vec(),
+    }
+}
+
+/// The record without its last word.
+fn cut(mut words: Vec<u16>) -> Vec<u16> {
+    words.pop();
+    words
+}
+
+fn faulty_schemas() -> Vec<(u16, Vec<u16>)> {
+    let undeclared = axiom::subclass(STRAPS.classes, 0);
+    let (_, right) = axiom::relates(0, 0, 0);
+    let unknown = (256 * (axiom::RELATES + 1), right);
+    vec![
+        (1, vec![]),
+        (1, cut(words().schema)),
+        (2, layout::schema(STRAPS, &[undeclared])),
+        (2, layout::schema(STRAPS, &[unknown])),
+    ]
+}
+
+fn faulty_concepts() -> Vec<(u16, Vec<u16>)> {
+    let step = [
+        token::EMPTY,
+        token::EVERYTHING,
+        token::forward(0),
+        token::REACHED,
+    ];
+    let without_steps = [];
+    vec![
+        (3, vec![]),
+        (3, layout::concept(&[])),
+        (3, cut(words().concept)),
+        (4, layout::concept(&[token::class(STRAPS.classes)])),
+        (4, layout::concept(&[(token::EVERYTHING.0, 1)])),
+        (5, layout::concept(&[token::BOTH])),
+        (5, layout::concept(&[token::EVERYTHING, token::EVERYTHING])),
+        (5, layout::concept(&[token::EMPTY])),
+        (6, layout::CONCEPT.record(&without_steps, &step)),
+    ]
+}
+
+fn faulty_states() -> Vec<(u16, Vec<u16>)> {
+    let (one, two) = (fact::name(0, 0), fact::name(0, 1));
+    vec![
+        (7, vec![]),
+        (7, cut(words().state)),
+        (8, layout::state(1, &[fact::member(0, 1), one])),
+        (8, layout::state(1, &[fact::member(STRAPS.classes, 0), one])),
+        (9, layout::state(1, &[one, one])),
+        (10, layout::state(1, &[])),
+        (10, layout::state(2, &[one, two])),
+    ]
+}
+
+/// The number of the refusal, or 0.
+fn number<T>(answer: Result<T, Refusal>) -> u16 {
+    answer.err().map_or(0, Refusal::number)
+}
+
+fn decided(schema: &[u16], query: &[u16], view: &[u16]) -> u16 {
+    match decide(schema, query, view) {
+        Decision::Refused(refusal) => refusal.number(),
+        _ => 0,
+    }
+}
+
+#[test]
+fn each_entry_refuses_each_faulty_record() {
+    let Words {
+        schema,
+        concept,
+        state,
+    } = words();
+    for (expected, faulty) in faulty_schemas() {
+        assert_eq!(number(select(&faulty, &[], &[])), expected);
+        assert_eq!(number(legal(&faulty, &[])), expected);
+        assert_eq!(number(counterexample(&faulty, &[], &[], &[])), expected);
+        assert_eq!(decided(&faulty, &[], &[]), expected);
+        assert_eq!(number(Schema::from_words(faulty)), expected);
+    }
+    let accepted = Schema::from_words(schema.clone()).expect("a schema");
+    for (expected, faulty) in faulty_concepts() {
+        assert_eq!(number(select(&schema, &faulty, &[])), expected);
+        let as_query = counterexample(&schema, &faulty, &[], &[]);
+        assert_eq!(number(as_query), expected);
+        let as_view = counterexample(&schema, &concept, &faulty, &[]);
+        assert_eq!(number(as_view), expected);
+        assert_eq!(decided(&schema, &faulty, &[]), expected);
+        assert_eq!(decided(&schema, &concept, &faulty), expected);
+        assert_eq!(
+            number(Query::from_words(&accepted, faulty.clone())),
+            expected
+        );
+        assert_eq!(number(View::from_words(&accepted, faulty)), expected);
+    }
+    for (expected, faulty) in faulty_states() {
+        assert_eq!(number(select(&schema, &concept, &faulty)), expected);
+        assert_eq!(number(legal(&schema, &faulty)), expected);
+        let found = counterexample(&schema, &concept, &concept, &faulty);
+        assert_eq!(number(found), expected);
+        assert_eq!(number(State::from_words(&accepted, faulty)), expected);
+    }
+    assert_eq!(number(select(&schema, &concept, &state)), 0);
+    assert_eq!(decided(&schema, &concept, &concept), 0);
+}
+
+#[test]
+fn a_refused_call_alters_nothing() {
+    let Words {
+        schema,
+        concept,
+        state,
+    } = words();
+    let mut lent = [7; 4];
+    let (mut out, mut second) = (99, 98);
+    let returned = raw::select(&schema, &concept, &state, &mut lent[..2], &mut out);
+    assert_eq!((returned, lent, out), (11, [7; 4], 99));
+    let returned = raw::legal(&schema, &[], &mut out);
+    assert_eq!((returned, out), (7, 99));
+    let returned = raw::counterexample(&schema, &concept, &[], &state, &mut out);
+    assert_eq!((returned, out), (3, 99));
+    let returned = raw::decide(&schema, &concept, &[], &mut lent, &mut out, &mut second);
+    assert_eq!((returned, lent, out, second), (3, [7; 4], 99, 98));
+
+    let returned = raw::select(&schema, &concept, &state, &mut lent, &mut out);
+    assert_eq!((returned, lent, out), (0, [1, 1, 1, 7], 3));
+}
+
+#[test]
+fn each_refusal_has_a_text() {
+    let Words { schema, state, .. } = words();
+    let mut texts = std::collections::BTreeSet::new();
+    let mut numbers = Vec::new();
+    let mut refusals = Vec::new();
+    for (_, faulty) in faulty_schemas() {
+        refusals.extend(legal(&faulty, &state).err());
+    }
+    for (_, faulty) in faulty_concepts() {
+        refusals.extend(select(&schema, &faulty, &state).err());
+    }
+    for (_, faulty) in faulty_states() {
+        refusals.extend(legal(&schema, &faulty).err());
+    }
+    for refusal in refusals {
+        let text = refusal.to_string();
+        assert!(text.starts_with(&format!("refused as {}: ", refusal.number())));
+        texts.insert(text);
+        numbers.push(refusal.number());
+    }
+    numbers.dedup();
+    // The safe calls lend enough, so the last refusal does not come up.
+    assert_eq!(numbers, (1..Refusal::LAST.number()).collect::<Vec<u16>>());
+    texts.insert(Refusal::LAST.to_string());
+    assert_eq!(texts.len(), usize::from(Refusal::LAST.number()));
+    assert!(texts.iter().all(|text| !text.contains("not known")));
+}
+
+#[test]
+fn a_record_of_another_schema_is_refused() {
+    let schema = straps().build();
+    let other = SchemaBuilder::new().build();
+    let query = Query::new(&schema, &Concept::class(PERSON)).expect("a query");
+    let view = View::new(&schema, &Concept::class(PERSON)).expect("a view");
+    let state = worn(&schema);
+    let all = Query::new(&other, &Concept::everything()).expect("a query");
+    assert_eq!(number(other.select(&query, &state)), 4);
+    assert_eq!(number(other.select(&all, &state)), 8);
+    assert_eq!(number(other.legal(&state)), 8);
+    assert_eq!(number(other.counterexample(&all, &view, &state)), 4);
+    let decision = other.decide(&query, &view);
+    assert!(matches!(decision, Decision::Refused(_)), "{decision:?}");
+}
+
+/// A thread with just the stack that is said to be enough decides a deep query
+/// of all the steps that there may be.
+#[test]
+fn the_stack_is_enough() {
+    let schema = straps().build();
+    let mut nested = Concept::class(STRAP);
+    for _ in 0..layout::QUERY_STEPS {
+        nested = Concept::reached(Path::empty().forward(WEARS, nested));
+    }
+    let query = Query::new(&schema, &nested).expect("a query");
+    let view = View::new(&schema, &Concept::class(STRAP)).expect("a view");
+    std::thread::scope(|scope| {
+        let small = std::thread::Builder::new().stack_size(raw::STACK_BYTES);
+        let decision = small.spawn_scoped(scope, || schema.decide(&query, &view));
+        let decision = decision.expect("a thread").join().expect("an answer");
+        assert!(matches!(decision, Decision::Open { .. }), "{decision:?}");
+    });
+}
+
+#[test]
+fn threads_decide_alike() {
+    let schema = straps().build();
+    let wearing = Concept::reached(Path::empty().forward(WEARS, Concept::everything()));
+    let query = Query::new(&schema, &wearing).expect("a query");
+    let view = View::new(&schema, &Concept::class(PERSON)).expect("a view");
+    let turned = View::new(&schema, &wearing).expect("a view");
+    let person = Query::from(view.clone());
+    let alone = schema.decide(&person, &turned);
+    assert!(matches!(alone, Decision::Open { .. }), "{alone:?}");
+    std::thread::scope(|scope| {
+        for _ in 0..4 {
+            scope.spawn(|| {
+                for _ in 0..100 {
+                    assert_eq!(schema.decide(&query, &view), Decision::Held);
+                    assert_eq!(schema.decide(&person, &turned), alone);
+                }
+            });
+        }
+    });
+}

@@ -1,0 +1,83 @@
+//! The numbers of the format and of the refusals are those of include/bikuvoa.h.
+
+use bikuvoa::layout::{self, axiom, fact, token, CONCEPT, SCHEMA, STATE};
+use bikuvoa::Refusal;
+use std::collections::BTreeMap;
+
+/// The macros and enumerators that are plain numbers, without their prefix.
+fn header() -> BTreeMap<String, usize> {
+    let path = concat!(env!("CARGO_MANIFEST_DIR"), "/../../include/bikuvoa.h");
+    let text = std::fs::read_to_string(path).expect("the header");
+    let mut numbers = BTreeMap::new();
+    for line in text.lines() {
+        let line = line
+            .trim()
+            .trim_start_matches("#define ")
+            .replace(" = ", " ");
+        let mut words = line.trim_end_matches(',').split(' ');
+        let name = words.next().and_then(|name| name.strip_prefix("BIKUVOA_"));
+        let number = words.next().and_then(|number| number.parse().ok());
+        if let (Some(name), Some(number), None) = (name, number, words.next()) {
+            numbers.insert(name.to_string(), number);
+        }
+    }
+    numbers
+}
+
+#[test]
+fn the_numbers_are_the_headers() {
+    let header = header();
+    let same = |name: &str, number: usize| {
+        assert_eq!(header.get(name), Some(&number), "{name}");
+    };
+    same("MAX_CLASSES", layout::MAX_CLASSES.into());
+    same("MAX_ATTRIBUTES", layout::MAX_ATTRIBUTES.into());
+    same("MAX_CONSTANTS", layout::MAX_CONSTANTS.into());
+    same("MAX_AXIOMS", layout::MAX_AXIOMS);
+    same("MAX_TOKENS", layout::MAX_TOKENS);
+    same("QUERY_STEPS", layout::QUERY_STEPS);
+    same("VIEW_STEPS", layout::VIEW_STEPS);
+    same("MAX_OBJECTS", layout::MAX_OBJECTS.into());
+    same("MAX_FACTS", layout::MAX_FACTS);
+    same("SCHEMA_SIZES", SCHEMA.sizes);
+    same("AT_AXIOMS", SCHEMA.counter);
+    same("CONCEPT_SIZES", CONCEPT.sizes);
+    same("AT_TOKENS", CONCEPT.counter);
+    same("STATE_SIZES", STATE.sizes);
+    same("AT_FACTS", STATE.counter);
+    same("BYTE_PART", axiom::subclass(0, 0).0.into());
+    same("OBJECT_PART", fact::member(1, 0).0.into());
+    for (name, kind) in [
+        ("SUBCLASS", axiom::SUBCLASS),
+        ("TYPING", axiom::TYPING),
+        ("NECESSARY", axiom::NECESSARY),
+        ("SINGLE", axiom::SINGLE),
+        ("RELATES", axiom::RELATES),
+        ("CLASS", token::CLASS),
+        ("EVERYTHING", token::EVERYTHING.0),
+        ("CONSTANT", token::CONSTANT),
+        ("BOTH", token::BOTH.0),
+        ("EMPTY", token::EMPTY.0),
+        ("FORWARD", token::FORWARD),
+        ("BACKWARD", token::BACKWARD),
+        ("REACHED", token::REACHED.0),
+        ("COMMON", token::COMMON.0),
+    ] {
+        same(name, kind.into());
+    }
+    for (name, refusal) in [
+        ("BAD_SCHEMA_SHAPE", Refusal::BAD_SCHEMA_SHAPE),
+        ("BAD_AXIOM", Refusal::BAD_AXIOM),
+        ("BAD_CONCEPT_SHAPE", Refusal::BAD_CONCEPT_SHAPE),
+        ("BAD_TOKEN", Refusal::BAD_TOKEN),
+        ("BAD_PILE", Refusal::BAD_PILE),
+        ("BAD_STEPS", Refusal::BAD_STEPS),
+        ("BAD_STATE_SHAPE", Refusal::BAD_STATE_SHAPE),
+        ("BAD_FACT", Refusal::BAD_FACT),
+        ("BAD_ORDER", Refusal::BAD_ORDER),
+        ("BAD_CONSTANTS", Refusal::BAD_CONSTANTS),
+        ("FEW_LENT_WORDS", Refusal::FEW_LENT_WORDS),
+    ] {
+        same(name, refusal.number().into());
+    }
+}

@@ -1,0 +1,223 @@
+//! Each limit: what is exactly at it is built and accepted, and one more is
+//! turned down by the builder and by the library alike.
+
+use bikuvoa::layout::{self, axiom, fact, token, Pair};
+use bikuvoa::layout::{DECIDE_WORDS, MAX_AXIOMS, MAX_FACTS, MAX_OBJECTS, MAX_TOKENS};
+use bikuvoa::layout::{MAX_ATTRIBUTES, MAX_CLASSES, MAX_CONSTANTS, QUERY_STEPS, VIEW_STEPS};
+use bikuvoa::{raw, Attribute, BuildError, Class, Concept, Constant, Item, Object, Path, Query};
+use bikuvoa::{Legality, Refusal, Schema, SchemaBuilder, Signature, State, StateBuilder, View};
+
+const LARGEST: Signature = Signature {
+    classes: MAX_CLASSES,
+    attributes: MAX_ATTRIBUTES,
+    constants: MAX_CONSTANTS,
+};
+
+fn too_many<T>(what: Item, limit: usize) -> Result<T, BuildError> {
+    Err(BuildError::TooMany { what, limit })
+}
+
+fn refused_as<T>(answer: Result<T, Refusal>) -> Option<u16> {
+    answer.err().map(Refusal::number)
+}
+
+fn largest() -> Schema {
+    let builder = SchemaBuilder::numbered(LARGEST);
+    builder.expect("what may be declared").build()
+}
+
+#[test]
+fn the_numbers_are_the_formats() {
+    assert_eq!(MAX_FACTS, 15_380);
+    assert_eq!(DECIDE_WORDS, 30_762);
+    assert_eq!(fact::FACT_KINDS, 36);
+}
+
+#[test]
+fn declared_names() {
+    let mut builder = SchemaBuilder::numbered(LARGEST).expect("what may be declared");
+    let schema = builder.build();
+    assert_eq!(schema.signature(), LARGEST);
+    assert!(Schema::from_words(schema.words().to_vec()).is_ok());
+
+    let (limit, what) = (MAX_CLASSES.into(), Item::Class);
+    assert_eq!(builder.class("one more"), too_many(what, limit));
+    let (limit, what) = (MAX_ATTRIBUTES.into(), Item::Attribute);
+    assert_eq!(builder.attribute("one more"), too_many(what, limit));
+    let (limit, what) = (MAX_CONSTANTS.into(), Item::Constant);
+    assert_eq!(builder.constant("one more"), too_many(what, limit));
+    for above in 0..3 {
+        let mut signature = LARGEST;
+        match above {
+            0 => signature.classes += 1,
+            1 => signature.attributes += 1,
+            _ => signature.constants += 1,
+        }
+        assert!(SchemaBuilder::numbered(signature).is_err());
+        let words = layout::schema(signature, &[]);
+        assert_eq!(refused_as(Schema::from_words(words)), Some(1));
+    }
+}
+
+#[test]
+fn axioms() {
+    let mut builder = SchemaBuilder::numbered(LARGEST).expect("what may be declared");
+    let last = Class(MAX_CLASSES - 1);
+    for _ in 0..MAX_AXIOMS {
+        builder.subclass(last, last).expect("an axiom");
+    }
+    let schema = builder.build();
+    assert_eq!(schema.axioms().count(), MAX_AXIOMS);
+    assert!(Schema::from_words(schema.words().to_vec()).is_ok());
+    let one_more = builder.subclass(last, last).map(|_| ());
+    assert_eq!(one_more, too_many(Item::Axiom, MAX_AXIOMS));
+    let axioms = vec![axiom::subclass(0, 0); MAX_AXIOMS + 1];
+    let words = layout::schema(LARGEST, &axioms);
+    assert_eq!(refused_as(Schema::from_words(words)), Some(1));
+}
+
+#[test]
+fn tokens() {
+    let schema = largest();
+    // An even number of tokens: two for the start and two more for each class.
+    let mut concept = Concept::reached(Path::empty());
+    while concept.tokens().len() < MAX_TOKENS {
+        concept = Concept::both(concept, Concept::class(Class(0)));
+    }
+    assert_eq!(concept.tokens().len(), MAX_TOKENS);
+    let query = Query::new(&schema, &concept).expect("a query");
+    assert!(Query::from_words(&schema, query.words().to_vec()).is_ok());
+    let view = View::new(&schema, &concept).expect("a view");
+    assert!(View::from_words(&schema, view.words().to_vec()).is_ok());
+
+    let mut odd = Concept::everything();
+    while odd.tokens().len() < MAX_TOKENS {
+        odd = Concept::both(odd, Concept::class(Class(0)));
+    }
+    assert_eq!(odd.tokens().len(), MAX_TOKENS + 1);
+    let query = Query::new(&schema, &odd);
+    assert_eq!(query, too_many(Item::Token, MAX_TOKENS));
+    let view = View::new(&schema, &odd);
+    assert_eq!(view, too_many(Item::Token, MAX_TOKENS));
+    let entries: Vec<Pair> = odd.tokens().iter().map(|token| token.words()).collect();
+    let words = layout::concept(&entries);
+    assert_eq!(refused_as(Query::from_words(&schema, words)), Some(3));
+}
+
+/// A path of so many steps.
+fn stepping(steps: usize) -> Concept {
+    let last = Attribute(MAX_ATTRIBUTES - 1);
+    let path = (0..steps).fold(Path::empty(), |path, step| {
+        if step % 2 == 0 {
+            path.forward(last, Concept::everything())
+        } else {
+            path.backward(last, Concept::everything())
+        }
+    });
+    Concept::reached(path)
+}
+
+fn step_words(steps: usize) -> Vec<u16> {
+    let entries: Vec<Pair> = stepping(steps).tokens().iter().map(|t| t.words()).collect();
+    layout::concept(&entries)
+}
+
+#[test]
+fn steps() {
+    let schema = largest();
+    assert!(Query::new(&schema, &stepping(QUERY_STEPS)).is_ok());
+    assert!(Query::from_words(&schema, step_words(QUERY_STEPS)).is_ok());
+    let query = Query::new(&schema, &stepping(QUERY_STEPS + 1));
+    assert_eq!(query, too_many(Item::Step, QUERY_STEPS));
+    let query = Query::from_words(&schema, step_words(QUERY_STEPS + 1));
+    assert_eq!(refused_as(query), Some(6));
+
+    assert!(View::new(&schema, &stepping(VIEW_STEPS)).is_ok());
+    assert!(View::from_words(&schema, step_words(VIEW_STEPS)).is_ok());
+    let view = View::new(&schema, &stepping(VIEW_STEPS + 1));
+    assert_eq!(view, too_many(Item::Step, VIEW_STEPS));
+    let view = View::from_words(&schema, step_words(VIEW_STEPS + 1));
+    assert_eq!(refused_as(view), Some(6));
+}
+
+/// All objects in all classes and as their own values, and all constants.
+fn full(schema: &Schema) -> StateBuilder {
+    let mut builder = StateBuilder::new(schema);
+    while let Ok(object) = builder.object() {
+        for class in (0..MAX_CLASSES).map(Class) {
+            builder.member(class, object).expect("a fact");
+        }
+        for attribute in (0..MAX_ATTRIBUTES).map(Attribute) {
+            builder.pair(attribute, object, object).expect("a fact");
+        }
+    }
+    for number in 0..MAX_CONSTANTS {
+        let constant = Constant(number);
+        builder.name(constant, Object(number)).expect("a fact");
+    }
+    builder
+}
+
+#[test]
+fn objects_and_facts() {
+    let schema = largest();
+    let mut builder = full(&schema);
+    let one_more = builder.object();
+    assert_eq!(one_more, too_many(Item::Object, MAX_OBJECTS.into()));
+    let mut second = 1;
+    while builder
+        .pair(Attribute(0), Object(0), Object(second))
+        .is_ok()
+    {
+        second += 1;
+    }
+    let one_more = builder.pair(Attribute(0), Object(0), Object(second));
+    assert_eq!(one_more.map(|_| ()), too_many(Item::Fact, MAX_FACTS));
+    // A fact that is there already needs no room.
+    let again = builder.pair(Attribute(0), Object(0), Object(0));
+    assert!(again.is_ok());
+    let state = builder.build().expect("a state");
+    assert_eq!(state.objects(), MAX_OBJECTS);
+    assert_eq!(state.facts().count(), MAX_FACTS);
+    assert_eq!(state.words().len(), DECIDE_WORDS);
+    assert_eq!(schema.legal(&state), Ok(Legality::Legal));
+    let all = Query::new(&schema, &Concept::everything()).expect("a query");
+    let selected = schema.select(&all, &state).expect("a selection");
+    assert_eq!(selected.len(), MAX_OBJECTS.into());
+
+    let mut words = state.words().to_vec();
+    words[0] += 1;
+    assert_eq!(refused_as(State::from_words(&schema, words)), Some(7));
+    let facts = vec![fact::member(0, 0); MAX_FACTS + 1];
+    let words = layout::state(1, &facts);
+    assert_eq!(refused_as(State::from_words(&schema, words)), Some(7));
+}
+
+#[test]
+fn lent_words() {
+    let schema = layout::schema(LARGEST, &[]);
+    let everything = layout::concept(&[token::EVERYTHING]);
+    let class = layout::concept(&[token::class(0)]);
+    let mut lent = vec![0; DECIDE_WORDS];
+    let (mut objects, mut object) = (99, 98);
+    let fewer = &mut lent[1..];
+    let returned = raw::decide(
+        &schema,
+        &everything,
+        &class,
+        fewer,
+        &mut objects,
+        &mut object,
+    );
+    assert_eq!((returned, objects, object), (11, 99, 98));
+    let returned = raw::decide(
+        &schema,
+        &everything,
+        &class,
+        &mut lent,
+        &mut objects,
+        &mut object,
+    );
+    assert_eq!(returned, 0);
+    assert!(object < objects && objects == u64::from(lent[0]));
+}

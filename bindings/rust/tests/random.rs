@@ -1,0 +1,272 @@
+//! Whatever the builders build is accepted, and no words make a call fail in
+//! another way than by a refusal.
+
+use bikuvoa::layout::{MAX_ATTRIBUTES, MAX_CLASSES, MAX_CONSTANTS, QUERY_STEPS, VIEW_STEPS};
+use bikuvoa::{decide, legal, select, Decision, Legality, Query, Refusal, Schema, SchemaBuilder};
+use bikuvoa::{Attribute, Axiom, Class, Concept, Constant, Object, Path, Signature};
+use bikuvoa::{State, StateBuilder, View};
+
+const DRAWS: usize = 2_000;
+
+/// A xorshift generator, so that each run draws the same.
+struct Random(u64);
+
+impl Random {
+    fn next(&mut self) -> u64 {
+        self.0 ^= self.0 << 13;
+        self.0 ^= self.0 >> 7;
+        self.0 ^= self.0 << 17;
+        self.0
+    }
+
+    /// A number below the bound, or 0 if that is 0.
+    fn below(&mut self, bound: u16) -> u16 {
+        (self.next() >> 32).checked_rem(bound.into()).unwrap_or(0) as u16
+    }
+
+    fn signature(&mut self) -> Signature {
+        Signature {
+            classes: self.below(MAX_CLASSES + 1),
+            attributes: self.below(MAX_ATTRIBUTES + 1),
+            constants: self.below(MAX_CONSTANTS + 1),
+        }
+    }
+
+    /// Any class at all, and one that is not declared every now and then; the
+    /// builders must sort out which.
+    fn class(&mut self, signature: Signature) -> Class {
+        Class(self.near(signature.classes))
+    }
+
+    fn attribute(&mut self, signature: Signature) -> Attribute {
+        Attribute(self.near(signature.attributes))
+    }
+
+    fn constant(&mut self, signature: Signature) -> Constant {
+        Constant(self.near(signature.constants))
+    }
+
+    fn near(&mut self, count: u16) -> u16 {
+        match self.below(40) {
+            0 => count,
+            1 => self.next() as u16,
+            _ => self.below(count),
+        }
+    }
+
+    fn axiom(&mut self, signature: Signature) -> Axiom {
+        let (class, other) = (self.class(signature), self.class(signature));
+        let attribute = self.attribute(signature);
+        match self.below(5) {
+            0 => Axiom::Subclass {
+                class,
+                superclass: other,
+            },
+            1 => Axiom::Typing {
+                class,
+                attribute,
+                values: other,
+            },
+            2 => Axiom::Necessary { class, attribute },
+            3 => Axiom::Single { class, attribute },
+            _ => Axiom::Relates {
+                attribute,
+                domain: class,
+                range: other,
+            },
+        }
+    }
+
+    fn schema(&mut self) -> Schema {
+        let signature = self.signature();
+        let mut builder = SchemaBuilder::numbered(signature).expect("few enough");
+        for _ in 0..self.below(130) {
+            // What cannot be is turned down, and the rest is built.
+            let _ = builder.axiom(self.axiom(signature));
+        }
+        builder.build()
+    }
+
+    fn concept(&mut self, signature: Signature, depth: u16) -> Concept {
+        if depth == 0 {
+            return match self.below(4) {
+                0 => Concept::everything(),
+                1 => Concept::constant(self.constant(signature)),
+                _ => Concept::class(self.class(signature)),
+            };
+        }
+        let shallower = self.below(depth);
+        match self.below(4) {
+            0 => Concept::both(
+                self.concept(signature, depth - 1),
+                self.concept(signature, shallower),
+            ),
+            1 => Concept::common(self.path(signature, depth), self.path(signature, shallower)),
+            _ => Concept::reached(self.path(signature, depth)),
+        }
+    }
+
+    fn path(&mut self, signature: Signature, depth: u16) -> Path {
+        let mut path = Path::empty();
+        for _ in 0..self.below(5) {
+            let attribute = self.attribute(signature);
+            let depth = self.below(depth + 1) / 2;
+            let landing = self.concept(signature, depth);
+            path = match self.below(3) {
+                0 => path.backward(attribute, landing),
+                _ => path.forward(attribute, landing),
+            };
+        }
+        path
+    }
+
+    fn state(&mut self, schema: &Schema) -> Option<State> {
+        let signature = schema.signature();
+        let mut builder = StateBuilder::new(schema);
+        let objects = self.below(40);
+        for _ in 0..objects {
+            builder.object().expect("an object");
+        }
+        for _ in 0..self.below(200) {
+            let (one, other) = (Object(self.near(objects)), Object(self.near(objects)));
+            let _ = match self.below(2) {
+                0 => builder.member(self.class(signature), one),
+                _ => builder.pair(self.attribute(signature), one, other),
+            };
+        }
+        for _ in 0..self.below(20) {
+            let _ = builder.name(self.constant(signature), Object(self.near(objects)));
+        }
+        builder.build().ok()
+    }
+}
+
+#[test]
+fn built_schemas_are_accepted() {
+    let mut random = Random(1);
+    for _ in 0..DRAWS {
+        let schema = random.schema();
+        let read = Schema::from_words(schema.words().to_vec());
+        let read = read.expect("an accepted schema");
+        assert_eq!(read.words(), schema.words());
+        assert!(read.axioms().eq(schema.axioms()));
+    }
+}
+
+#[test]
+fn built_concepts_are_accepted() {
+    let mut random = Random(2);
+    let (mut queries, mut views) = (0, 0);
+    for _ in 0..DRAWS {
+        let schema = random.schema();
+        let depth = random.below(5);
+        let concept = random.concept(schema.signature(), depth);
+        if let Ok(query) = Query::new(&schema, &concept) {
+            queries += 1;
+            let read = Query::from_words(&schema, query.words().to_vec());
+            assert_eq!(read.as_ref(), Ok(&query));
+            assert_eq!(query.concept(), concept);
+        }
+        if let Ok(view) = View::new(&schema, &concept) {
+            views += 1;
+            let read = View::from_words(&schema, view.words().to_vec());
+            assert_eq!(read, Ok(view));
+        }
+    }
+    assert!(queries > DRAWS / 4 && views > DRAWS / 4);
+    assert!(queries > views, "{queries} queries, {views} views");
+}
+
+#[test]
+fn built_states_are_accepted() {
+    let mut random = Random(3);
+    let mut states = 0;
+    for _ in 0..DRAWS {
+        let schema = random.schema();
+        if let Some(state) = random.state(&schema) {
+            states += 1;
+            let read = State::from_words(&schema, state.words().to_vec());
+            assert_eq!(read, Ok(state.clone()));
+            assert!(schema.legal(&state).is_ok());
+        }
+    }
+    assert!(states > DRAWS / 4, "{states} states");
+}
+
+#[test]
+fn built_triples_are_decided() {
+    let mut random = Random(4);
+    let (mut held, mut open) = (0, 0);
+    while held + open < DRAWS {
+        let schema = random.schema();
+        let signature = schema.signature();
+        let query = Query::new(&schema, &random.concept(signature, 2));
+        let view = View::new(&schema, &random.concept(signature, 1));
+        let (Ok(query), Ok(view)) = (query, view) else {
+            continue;
+        };
+        match schema.decide(&query, &view) {
+            Decision::Held => held += 1,
+            Decision::Open { state, object } => {
+                open += 1;
+                assert_eq!(schema.legal(&state), Ok(Legality::Legal));
+                let in_query = schema.select(&query, &state).expect("a selection");
+                let in_view = schema.select(&view.clone().into(), &state);
+                let in_view = in_view.expect("a selection");
+                assert!(in_query.contains(&object) && !in_view.contains(&object));
+                let read = State::from_words(&schema, state.words().to_vec());
+                assert_eq!(read, Ok(state));
+            }
+            Decision::Refused(refusal) => panic!("{refusal} of {schema:?}, {query:?}, {view:?}"),
+        }
+    }
+    assert!(held > DRAWS / 20 && open > DRAWS / 20, "{held}, {open}");
+}
+
+/// Few words, mostly small.
+fn any_words(random: &mut Random) -> Vec<u16> {
+    let bound = [2, 4, 12, 600, u16::MAX][usize::from(random.below(5))];
+    (0..random.below(14)).map(|_| random.below(bound)).collect()
+}
+
+#[test]
+fn any_words_are_answered() {
+    let mut random = Random(5);
+    let mut refused = 0;
+    for _ in 0..50 * DRAWS {
+        let (schema, one) = (any_words(&mut random), any_words(&mut random));
+        let other = any_words(&mut random);
+        let in_range = |refusal: Refusal| (1..=Refusal::LAST.number()).contains(&refusal.number());
+        assert!(select(&schema, &one, &other).err().is_none_or(in_range));
+        assert!(legal(&schema, &one).err().is_none_or(in_range));
+        if let Decision::Refused(refusal) = decide(&schema, &one, &other) {
+            refused += 1;
+            assert!(in_range(refusal));
+        }
+        if let Ok(schema) = Schema::from_words(schema) {
+            if let Ok(state) = State::from_words(&schema, one) {
+                assert!(schema.legal(&state).is_ok());
+            }
+            if let Ok(query) = Query::from_words(&schema, other) {
+                assert!(query.concept().tokens().len() <= 64);
+            }
+        }
+    }
+    assert!(refused > 0);
+}
+
+/// Nested far beyond what a record can have: turned down, and nothing breaks.
+#[test]
+fn a_deep_concept_is_turned_down() {
+    let schema = SchemaBuilder::new().build();
+    let mut concept = Concept::everything();
+    for _ in 0..100_000 {
+        concept = Concept::both(concept, Concept::everything());
+    }
+    assert!(Query::new(&schema, &concept).is_err());
+    let mut path = Path::empty();
+    for _ in 0..=QUERY_STEPS.max(VIEW_STEPS) {
+        path = path.forward(Attribute(0), Concept::everything());
+    }
+    assert!(View::new(&schema, &Concept::reached(path)).is_err());
+}
