@@ -1,0 +1,294 @@
+#!/usr/bin/env python3
+"""Holds docs/RECORDS.md to the code: the numbers of its tables to the Rattle sources, to the C header and to tests/words.py, and
+its example word by word to the records of example/. What README.md repeats (axioms, limits, the printed state) is held to the
+page, and to the program where it has been built. Sources are read as text: a number that is written in another way fails too.
+"""
+import re
+import struct
+import sys
+
+import triples
+import words
+from program import PROGRAM, judged, run
+from triples import CLUB, RECORDED, ROOT, ROWERS
+
+PAGE = (ROOT / "docs" / "RECORDS.md").read_text()
+README = (ROOT / "README.md").read_text()
+HEADER = (ROOT / "include" / "bikuvoa.h").read_text()
+SOURCE = {name: (ROOT / "crates" / path).read_text() for name, path in {
+    "schema": "records/src/schema.rt", "concept": "records/src/concept.rt", "state": "records/src/state.rt",
+    "select": "judge/src/select.rt", "legal": "judge/src/legal.rt", "counterexample": "judge/src/counterexample.rt",
+    "decide": "decide/src/lib.rt"}.items()}
+held, faults = [], []
+
+
+def hold(what, said, *found):
+    held.append(what)
+    if any(other != said for other in found):
+        faults.append(f"{what}: {said} here, {', '.join(map(str, found))} there")
+
+
+# The page's tables, each as rows of cells, by the first two cells of its head.
+def tables():
+    found = {}
+    for block in re.findall(r"(?:^\|.*\n)+", PAGE, re.M):
+        head, _, *rows = ([cell.strip() for cell in line[1:-1].split("|")] for line in block.splitlines())
+        found.setdefault(", ".join(head[:2]), []).append(rows)
+    return found
+
+
+def number(text):
+    return int(text.replace(",", ""))
+
+
+# The numbers that the sources and the header name, and those in the text of a function.
+def evaluated(definitions):
+    """Names to numbers, or to functions where there is a parameter. What uses an unknown name is passed over."""
+    known = {}
+    for name, parameter, text in definitions:
+        if all(part in {*known, parameter} for part in re.findall(r"\b[A-Za-z]\w*", text)):
+            known[name] = eval(f"lambda {parameter}: {text}" if parameter else text, known)
+    return known
+
+
+STEPS = re.findall(r"impl (\w+) \{\s*pub const STEPS: usize = (\d+);", SOURCE["concept"])
+CODE = evaluated([
+    *((f"{role.upper()}_STEPS", "", n) for role, n in STEPS),
+    *((name, "", text) for name, text in re.findall(r"const (\w+): usize = ([^;]+);", "".join(SOURCE.values())))])
+C = evaluated([
+    *re.findall(r"#define (\w+)(?:\((\w+)\))? (.+)", HEADER.replace("BIKUVOA_", "")),
+    *((name, "", n) for name, n in re.findall(r"BIKUVOA_(\w+) = (\d+)", HEADER))])
+
+
+def value(text):
+    return CODE[text] if text in CODE else int(text)
+
+
+def function(source, name):
+    return re.search(rf"^( *)(?:pub )?fn {name}\(.*?^\1\}}$", SOURCE[source], re.M | re.S).group()
+
+
+def in_function(source, name, pattern):
+    return value(re.search(pattern, function(source, name)).group(1))
+
+
+def layout(record):
+    return tuple(in_function(record, f"{record}_layout", rf"{field}: (\w+)") for field in ("sizes", "counter"))
+
+
+def shapes(rows):
+    built = {"schema": words.schema(0, 0, 0), "concept": words.concept([]), "state": words.state(0, [])}
+    hold("records", [row[0] for row in rows], list(built))
+    for record, names, counted, length in rows:
+        names = names.split(", ")
+        hold(f"{record}, size words", (len(names), names.index(counted)), layout(record))
+        hold(f"{record}, number of size words", len(names), len(built[record]), C[f"{record.upper()}_SIZES"])
+        hold(f"{record}, length", length, f"{len(names)} + 2n")
+        hold(f"{record}, length in the header", len(names) + 2 * 5, C[f"{record.upper()}_WORDS"](5))
+        for place, name in enumerate(names):
+            hold(f"{record}, place of {name}", place, C[f"AT_{name.upper()}"])
+
+
+def limits(rows):
+    steps = {f"steps of a {role}": f"{role.upper()}_STEPS" for role in ("query", "view")}
+    names = {name: steps.get(name, f"MAX_{name.upper()}") for name, *_ in rows}
+    hold("limits", {*names.values()}, {name for name in CODE if re.match("MAX_|.*_STEPS", name)})
+    for name, least, most in rows:
+        constant = names[name]
+        hold(f"limit of {name}", number(most), CODE[constant], C[constant])
+        hold(f"least {name}", number(least), in_function("concept", "bad_shape", r"\(n < (\w+)\)") if name == "tokens" else 0)
+    return {name: number(most) for name, _, most in rows}
+
+
+def numbered(rows, source, decoder, check, word):
+    """Kinds or sorts. The decoder's last arm has no number: its own is the highest that the check lets pass."""
+    page = {int(n): name for n, name, *_ in rows}
+    arms = re.findall(r"^\s*(\w+) => \w+::(\w+)", function(source, decoder), re.M)
+    last = in_function(source, check, rf"\((\w+) < {word}\)")
+    hold(f"names by {word}", page, {last if n == "_" else value(n): name.lower() for n, name in arms})
+    hold(f"lowest {word}", min(page), in_function(source, check, rf"\({word} < (\w+)\)"))
+    for n, name in page.items():
+        hold(f"{name} in the header", n, C[name.upper()])
+    return page
+
+
+def stack_move(token):
+    """What the check takes off its stack of sorts, the top first, and puts there: 0 is a concept, 1 a path."""
+    call, given = re.search(rf"Token::{token}\S* => self\.(\w+)\((.*)\)", function("concept", "push")).groups()
+    if call == "put":
+        takes, puts = [], int(given)
+    elif call == "reach":
+        takes, puts = [1], 0
+    else:
+        want, puts = map(int, given.split(", "))
+        takes = [want % 2, want // 2]
+    sorts = ["concept", "path"]
+    return ", ".join(sorts[n] for n in takes) or "nothing", sorts[puts]
+
+
+def tokens(rows):
+    for n, name, argument, takes, puts in rows:
+        token = name.capitalize()
+        hold(f"token {name} in words.py", int(n), getattr(words, name.upper(), None))
+        hold(f"token {name} has an argument", argument != "0", f"Token::{token}(argument)" in function("concept", "token_of"))
+        hold(f"token {name} takes and puts", (takes, puts.split()[1]), stack_move(token))
+
+
+def facts(rows):
+    said = re.findall(r"(\w+) · (\d+) \+ ([A-Za-z]+)", " ".join(PAGE.split()))
+    hold("words of two parts", {"subject", "object"} - {second for *_, second in said}, set())
+    for first, factor, second in said:
+        part = "OBJECT_PART" if second == "object" else "BYTE_PART"
+        hold(f"{first} · {factor} + {second}", int(factor), CODE[part], C[part])
+    hold("axioms in words.py", (3 * CODE["BYTE_PART"] + 7, 5), words.axiom(3, 7, 5))
+    made = {"class": words.member(1, 7), "attribute": words.pair(1, 7, 5), "constant": words.name(1, 7)}
+    starts = ["ATTRIBUTE_KINDS", "CONSTANT_KINDS", "FACT_KINDS"]
+    past = 0
+    for start, (kinds, name, text, right) in zip(starts, rows, strict=True):
+        first, last = map(int, kinds.split(" to "))
+        hold(f"kinds of a {name} begin", first, past)
+        hold(f"kinds of a {name} end", last + 1, CODE[start], C[start])
+        hold(f"kinds of a {name}, what is taken off", re.findall(r"− (\d+)", text), [str(first)] * (first > 0))
+        hold(f"facts of a {name} in words.py", ((first + 1) * CODE["OBJECT_PART"] + 7, 0 if right == "0" else 5), made[name])
+        past = last + 1
+
+
+def refusals(rows, orders, lent):
+    page = {}
+    for n, name, record, _ in rows:
+        page.setdefault(record, []).append(int(n))
+        hold(f"refusal {n} in the header", int(n), C.get(name))
+    for name in re.findall(r"`(bikuvoa_\w+)`", PAGE):
+        hold(f"{name} is in the header", f"{name}(" in HEADER, True)
+    for record in ("schema", "concept", "state"):
+        code = re.findall(r"=> (\w+),", function(record, "number"))
+        hold(f"refusals of a {record}", [0, *page[record]], [value(n) for n in code])
+    hold("functions", [row[0] for row in orders], re.findall(r"^uint16_t bikuvoa_(\w+)\(", HEADER, re.M))
+    hold("functions with lent words", [row[0] for row in lent], [entry for entry, text in orders if "lent words" in text])
+    for entry, text in orders:
+        looks = {"lent words": ["lent.len", *(f"Refused({n})" for n in page["lent words"])]}
+        hold(f"checks of {entry}", [look for part in text.split(", ") for look in looks.get(part, [f"check_{part}"])],
+             re.findall(r"check_\w+|lent\.len|Refused\(\d+\)", function(entry, entry)))
+
+
+# The example: the words of a table, and what its meanings must be by these words.
+def spelled(rows, part=None):
+    found = {}
+    for cells in rows:
+        for place, text in (cells[:2], cells[2:4]):
+            if place:
+                n, *product = text.split(" = ")
+                found[int(place)] = int(n)
+                if product:
+                    hold(f"word {place} of the example", product[0], f"{int(n) // part} · {part} + {int(n) % part}")
+    return [found[place] for place in range(len(found))], [cells[4] for cells in rows]
+
+
+def split(record, shape):
+    """The size words, and the left and right word of each entry."""
+    sizes, _ = layout(shape)
+    n = (len(record) - sizes) // 2
+    return record[:sizes], list(zip(record[sizes:sizes + n], record[sizes + n:], strict=True))
+
+
+def stored(name):
+    content = (ROOT / "example" / f"{name}.bin").read_bytes()
+    return list(struct.unpack(f"<{len(content) // 2}H", content))
+
+
+class Names:
+    """The names of the club's classes and attributes, and what axioms, tokens and facts say in these words."""
+
+    def __init__(self, *lines):
+        self.classes, self.attributes = (re.findall(r"\d+ (\w+)", line) for line in lines)
+        hold("numbers of names", [list(map(int, re.findall(r"\d+", line))) for line in lines],
+             [list(range(len(names))) for names in (self.classes, self.attributes)])
+
+    def verb(self, attribute):
+        return {"during": "is during"}.get(self.attributes[attribute], self.attributes[attribute])
+
+    def axiom(self, left, right):
+        (kind, a), (first, second) = divmod(left, CODE["BYTE_PART"]), divmod(right, CODE["BYTE_PART"])
+        if kind == C["RELATES"]:
+            return f"{self.attributes[a]} goes from a {self.classes[first]} to a {self.classes[second]}"
+        if kind == C["SUBCLASS"]:
+            return f"a {self.classes[a]} is a {self.classes[right]}"
+        return f"a {self.classes[a]} {self.verb(right)} {'something' if kind == C['NECESSARY'] else 'at most one thing'}"
+
+    def token(self, sorts, sort, argument):
+        named = {"class": self.classes, "forward": self.attributes, "backward": self.attributes}.get(sorts[sort])
+        return f"{sorts[sort]} {named[argument]}" if named else sorts[sort]
+
+    def fact(self, left, right):
+        kind, x = divmod(left, CODE["OBJECT_PART"])
+        first = CODE["ATTRIBUTE_KINDS"]
+        return f"{x} is a {self.classes[kind]}" if kind < first else f"{x} {self.verb(kind - first)} {right}"
+
+
+def example(schema, query, state, sorts):
+    record, meanings = spelled(schema, CODE["BYTE_PART"])
+    names = Names(*meanings[:2])
+    sizes, entries = split(record, "schema")
+    axioms = [names.axiom(*entry) for entry in entries]
+    hold("words of schema.bin", record, stored("schema"))
+    hold("meaning of schema.bin", meanings[len(sizes):], axioms)
+    record, meanings = spelled(query)
+    sizes, entries = split(record, "concept")
+    hold("words of query.bin", record, stored("query"))
+    hold("meaning of query.bin", meanings[len(sizes):], [names.token(sorts, *entry) for entry in entries])
+    record, meanings = spelled(state, CODE["OBJECT_PART"])
+    sizes, entries = split(record, "state")
+    hold("meaning of the state", meanings[len(sizes):], [names.fact(*entry) for entry in entries])
+    return axioms, sizes, entries
+
+
+def decided(kept, query, view):
+    """What the program prints under those of the club's axioms that are kept."""
+    sizes, axioms = split(CLUB, "schema")
+    cut = words.schema(*sizes[:C["AT_AXIOMS"]], [axioms[i] for i in kept])
+    files = triples.files(ROOT, cut, words.concept(query), words.concept(view))
+    return run({path.name: content for path, content in files.items()})
+
+
+def readme(axioms, sizes, entries, most, least):
+    text = " ".join(README.split())
+    hold("README.md, axioms", re.findall(r"^    (\d+)  (.+)$", README, re.M), [(str(i), axiom) for i, axiom in enumerate(axioms)])
+    for name, n in most.items():
+        said = f"{n:,} in a view" if "view" in name else f"{n:,} {name}".replace(" of a ", " in a ")
+        hold(f"README.md says {said}", bool(re.search(rf"(?<![\d,]){said}\b", text)), True)
+    hold("README.md, stack", re.findall(r"give each thread (\d+) MB", text), [str(C["STACK_BYTES"] >> 20)])
+    hold("README.md, lent words", re.findall(r"([\d,]+) words \(([\d,]+) bytes\)", text), [(f"{least:,}", f"{2 * least:,}")])
+    printed = [line.strip() for line in re.search(r"^    OPEN.*\n(?:    \d+ \d+\n)+", README, re.M).group().splitlines()]
+    hold("README.md, the state", printed[1:], [f"{left} {right}" for left, right in entries])
+    hold("sizes of the state", (sizes[C["AT_OBJECTS"]], sizes[C["AT_FACTS"]]), (number(printed[0].split()[1]), len(entries)))
+    told = re.findall(r"a state of (\d+) objects in which object (\d+)", text)
+    hold("README.md, what it says of the state", told, [tuple(printed[0].split()[1:])])
+    judged(printed, CLUB, RECORDED, ROWERS)
+    if PROGRAM.exists():
+        every = range(len(axioms))
+        enough = [int(n) for n in re.findall(r"\d+", re.search(r"Axioms ([\d, and]+) are enough", text).group(1))]
+        hold("README.md, what is printed", printed, decided(every, RECORDED, ROWERS))
+        hold("README.md, enough axioms", ["HELD"], decided(enough, ROWERS, RECORDED))
+        for i in enough:
+            hold(f"README.md, without axiom {i}", "OPEN", decided([j for j in every if j != i], ROWERS, RECORDED)[0].split()[0])
+
+
+def main():
+    page = tables()
+    shapes(*page["record, size words, in this order"])
+    most = limits(*page["size, least"])
+    numbered(*page["kind, name"], "schema", "axiom_of", "faulty_axiom", "kind")
+    sorts = numbered(*page["sort, name"], "concept", "token_of", "faulty_token", "sort")
+    tokens(*page["sort, name"])
+    facts(*page["kinds, name"])
+    lent, = page["function, least lent words"]
+    refusals(*page["number, in the header"], *page["function, looks at, in this order"], lent)
+    least = next(number(text) for entry, text, _ in lent if entry == "decide")
+    hold("lent words of decide", least, CODE["STATE_WORDS"], C["DECIDE_WORDS"])
+    readme(*example(*page["word, value"], sorts), most, least)
+    print("\n".join(faults) if faults else f"records page: {len(held)} facts held to the code")
+    return 1 if faults else 0
+
+
+if __name__ == "__main__":
+    sys.exit(main())
