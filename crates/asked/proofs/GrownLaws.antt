@@ -66,6 +66,9 @@ grown-late p = record { adds = p .adds; fits = omega (arith, p .fits); size = p 
 pub grown-one : {k : Kind} {F : Facts} {x y : Words} (m : ℕ) → Grown k F 0 1 x y → Grown k F m (suc m) x y
 grown-one m p = record { adds = p .adds; fits = omega (arith, p .fits); size = p .size }
 
+pub grown-as : {k : Kind} {F G : Facts} {start b end : ℕ} {x y : Words} → G ≡ F → b ≡ start → Grown k F start end x y → Grown k G b end x y
+grown-as q s p = rw (q, s) p
+
 -- One fact.
 
 pushed-listed : (x : Words) (v : ℕ) → Room x → listed (pushed x v) ≡ listed x ++ (v ∷ [])

@@ -9,8 +9,9 @@ use Rattle.records.specs.Finite.{count}
 use Rattle.records.specs.Refusal.{stepAt, steps}
 use Rattle.records.proofs.FiniteLaws.{count-mono}
 use Rattle.chase.specs.Facts.{Facts}
-use Rattle.chase.specs.Tokens.{HasPath, stepNumber, endAt}
-use Rattle.tokens.proofs.EndLaws.{end-step, end-empty}
+use Rattle.records.specs.Reading.{HasPath, stepNumber}
+use Rattle.chase.specs.QueryTokens.{endAt}
+use Rattle.asked.proofs.EndLaws.{end-step, end-empty}
 use Rattle.asked.specs.declared.words.Kind.{Kind}
 use Rattle.asked.specs.declared.words.Words.{Words}
 use Rattle.asked.specs.Listed.{Room, Grown}

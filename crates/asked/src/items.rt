@@ -6,15 +6,18 @@ use crate::words::add_edge;
 use crate::words::add_equation;
 use crate::words::add_member;
 use records::concept::Token;
+use records::concept::is_step;
 use records::concept::token_at;
-use tokens::end_of;
-use tokens::start_of;
-use tokens::step_number;
-ghost use Prim.Native.Nat.{suc, _<_};
-ghost use Rattle.chase.specs.Tokens.{startOf, HasConcept, HasPath, factsAt, pathFactsAt};
-ghost use Rattle.primary.specs.Words.{part};
-ghost use Rattle.asked.specs.Listed.{Grown};
-ghost use Rattle.asked.specs.Places.{Place, bothFacts, commonFacts, stepFacts, belowStart};
+use records::reading::start_of;
+use records::reading::step_number;
+ghost use mathlib.Core.Path.{_≡_};
+ghost use Prim.Native.Nat.{suc, _<_, _^_};
+ghost use Rattle.records.specs.declared.concept.Token.the-variants.{Both, Common};
+ghost use Rattle.records.specs.Concept.{directionOf};
+ghost use Rattle.records.specs.ConceptRecord.{tokenAt};
+ghost use Rattle.records.specs.Reading.{stepToken, HasConcept, HasPath};
+ghost use Rattle.chase.specs.QueryTokens.{endAt};
+ghost use Rattle.asked.specs.Places.{Place, ConceptGrown, PathGrown};
 
 // The concept that ends at `end`, at a node.
 pub fn concept(
@@ -27,42 +30,43 @@ pub fn concept(
 ) -> Words
     requires { ⌜ Place (now query) first end node list ⌝ }
     requires { ⌜ HasConcept (now query) end ⌝ }
-    ensures { λ r. ⌜ Grown kind (factsAt first (now (query .entry)) end node) (startOf (now (query .entry)) end 1) end list r ⌝ }
+    ensures { λ r. ⌜ ConceptGrown first (now (query .entry)) end node kind list r ⌝ }
 {
     let at = end - 1;
     match token_at(query, at) {
         Token::Class(a) => add_member(kind, a, node, list),
+        Token::Everything => list,
         Token::Constant(a) => add_equation(kind, node, first + a, list),
         Token::Both => both(query, kind, first, at, node, list),
         Token::Reached => path(query, kind, first, at, node, list),
         Token::Common => common(query, kind, first, at, node, list),
-        // Everything: no other token is left that ends a concept.
-        _ => list,
+        // A path's tokens end no concept.
+        Token::Empty | Token::Forward(_) | Token::Backward(_) => list,
     }
 }
 
-// Both of the two concepts that end at `end`.
-fn both(query: &[u16], kind: Kind, first: usize, end: usize, node: usize, list: Words) -> Words
-    requires { ⌜ Place (now query) first (suc end) node list ⌝ }
-    requires { ⌜ HasConcept (now query) end ⌝ }
-    requires { ⌜ HasConcept (now query) (startOf (now query) end 1) ⌝ }
-    ensures { λ r. ⌜ Grown kind (bothFacts first (now (query .entry)) end node) (belowStart (now (query .entry)) end) (suc end) list r ⌝ }
+// Both of two concepts, whose token stands at `at`.
+fn both(query: &[u16], kind: Kind, first: usize, at: usize, node: usize, list: Words) -> Words
+    requires { ⌜ Place (now query) first (suc at) node list ⌝ }
+    requires { ⌜ HasConcept (now query) (suc at) ⌝ }
+    requires { ⌜ tokenAt (now query) at ≡ Both ⌝ }
+    ensures { λ r. ⌜ ConceptGrown first (now (query .entry)) (suc at) node kind list r ⌝ }
 {
-    let after = concept(query, kind, first, end, node, list);
-    concept(query, kind, first, start_of(query, end), node, after)
+    let after = concept(query, kind, first, at, node, list);
+    concept(query, kind, first, start_of(query, at), node, after)
 }
 
-// The two paths that end at `end` lead to one object.
-fn common(query: &[u16], kind: Kind, first: usize, end: usize, node: usize, list: Words) -> Words
-    requires { ⌜ Place (now query) first (suc end) node list ⌝ }
-    requires { ⌜ HasPath (now query) end ⌝ }
-    requires { ⌜ HasPath (now query) (startOf (now query) end 1) ⌝ }
-    ensures { λ r. ⌜ Grown kind (commonFacts first (now (query .entry)) end node) (belowStart (now (query .entry)) end) (suc end) list r ⌝ }
+// The two paths of a common object, whose token stands at `at`.
+fn common(query: &[u16], kind: Kind, first: usize, at: usize, node: usize, list: Words) -> Words
+    requires { ⌜ Place (now query) first (suc at) node list ⌝ }
+    requires { ⌜ HasConcept (now query) (suc at) ⌝ }
+    requires { ⌜ tokenAt (now query) at ≡ Common ⌝ }
+    ensures { λ r. ⌜ ConceptGrown first (now (query .entry)) (suc at) node kind list r ⌝ }
 {
-    let after = path(query, kind, first, end, node, list);
-    let middle = start_of(query, end);
+    let after = path(query, kind, first, at, node, list);
+    let middle = start_of(query, at);
     let left = end_of(query, middle, node);
-    let right = end_of(query, end, node);
+    let right = end_of(query, at, node);
     let joined = add_equation(kind, left, right, after);
     path(query, kind, first, middle, node, joined)
 }
@@ -71,38 +75,56 @@ fn common(query: &[u16], kind: Kind, first: usize, end: usize, node: usize, list
 fn path(query: &[u16], kind: Kind, first: usize, end: usize, node: usize, list: Words) -> Words
     requires { ⌜ Place (now query) first end node list ⌝ }
     requires { ⌜ HasPath (now query) end ⌝ }
-    ensures { λ r. ⌜ Grown kind (pathFactsAt first (now (query .entry)) end node) (startOf (now (query .entry)) end 1) end list r ⌝ }
+    ensures { λ r. ⌜ PathGrown first (now (query .entry)) end node kind list r ⌝ }
 {
     let at = end - 1;
     match token_at(query, at) {
+        Token::Empty => list,
         Token::Forward(p) => step(query, kind, first, at, node, p, false, list),
         Token::Backward(p) => step(query, kind, first, at, node, p, true, list),
-        // The empty path: no other token is left that ends a path.
-        _ => list,
+        // A concept's tokens end no path.
+        Token::Class(_)
+        | Token::Everything
+        | Token::Constant(_)
+        | Token::Both
+        | Token::Reached
+        | Token::Common => list,
     }
 }
 
-// The path with a step at its end that lands in the concept that ends at `end`.
+// The path with a step at its end, whose token stands at `at`.
 fn step(
     query: &[u16],
     kind: Kind,
     first: usize,
-    end: usize,
+    at: usize,
     node: usize,
     attribute: usize,
     backward: bool,
     list: Words,
 ) -> Words
-    requires { ⌜ Place (now query) first (suc end) node list ⌝ }
-    requires { ⌜ HasConcept (now query) end ⌝ }
-    requires { ⌜ HasPath (now query) (startOf (now query) end 1) ⌝ }
-    requires { ⌜ attribute < part ⌝ }
-    ensures { λ r. ⌜ Grown kind (stepFacts first (now (query .entry)) end node attribute backward) (belowStart (now (query .entry)) end) (suc end) list r ⌝ }
+    requires { ⌜ Place (now query) first (suc at) node list ⌝ }
+    requires { ⌜ HasPath (now query) (suc at) ⌝ }
+    requires { ⌜ tokenAt (now query) at ≡ stepToken (directionOf backward) attribute ⌝ }
+    ensures { λ r. ⌜ PathGrown first (now (query .entry)) (suc at) node kind list r ⌝ }
 {
-    let landing = step_number(query, end);
-    let after = concept(query, kind, first, end, landing, list);
-    let middle = start_of(query, end);
+    let landing = step_number(query, at);
+    let after = concept(query, kind, first, at, landing, list);
+    let middle = start_of(query, at);
     let origin = end_of(query, middle, node);
     let led = add_edge(kind, backward, attribute, origin, landing, after);
     path(query, kind, first, middle, node, led)
+}
+
+// The node at the end of the path that ends at `end` and starts at `node`.
+fn end_of(query: &[u16], end: usize, node: usize) -> usize
+    requires { ⌜ end < 2 ^ 16 ⌝ }
+    requires { ⌜ HasPath (now query) end ⌝ }
+    ensures { λ r. ⌜ r ≡ endAt (now (query .entry)) end node ⌝ }
+{
+    let at = end - 1;
+    if is_step(token_at(query, at)) {
+        return step_number(query, at);
+    }
+    node
 }

@@ -17,12 +17,13 @@ use Rattle.records.specs.ConceptRecord.{pileAfter, conceptOf}
 use Rattle.records.specs.Refusal.{outside, declares, isConcept, steps, faultyToken, refusal-2, refusal-4, refusal-5, refusal-6, AcceptedSchema, AcceptedConcept}
 use Rattle.records.proofs.AcceptedLaws.{passes-1, passes-2, passes-4, passes-5, passes-6, axiom-declared, token-faultless}
 pub use Rattle.records.proofs.AcceptedLaws.{signature-few as accepted-signature}
-use Rattle.chase.specs.Steps.{conceptSteps}
+use Rattle.records.specs.Steps.{conceptSteps}
 use Rattle.chase.specs.Declared.{DeclaredAxiom, Declared}
 use Rattle.chase.specs.Task.{Task, WellFormed, taskOf}
-use Rattle.chase.specs.Tokens.{startOf, HasConcept, stepNumber}
+use Rattle.records.specs.Reading.{startOf, HasConcept, stepNumber}
 use Rattle.chase.proofs.TestLaws.{and-parts, or-false}
-use Rattle.chase.proofs.TokenLaws.{number-concept, declared-concept, whole-concept}
+use Rattle.records.proofs.ReadingLaws.{number-concept, whole-concept}
+use Rattle.chase.proofs.DeclaredLaws.{declared-concept}
 
 declares-is : (s : Signature) (x : Axiom) → So (declares s x) → DeclaredAxiom s x
 declares-is s (Subclass A B) h =

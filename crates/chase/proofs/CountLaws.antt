@@ -2,7 +2,7 @@
 use Prim.Native.Nat.{ℕ, zero, suc, _<_}
 use native.Mathlib.Omega.{arith}
 use native.Mathlib.Decide.{decLt}
-use mathlib.Core.Bool.{Bool, false, So, cond}
+use mathlib.Core.Bool.{Bool, So, cond}
 use mathlib.Core.Path.{_≡_, refl, ap, subst, _∙_}
 use mathlib.Core.List.{List, [], _∷_, _++_}
 use lib.Dec.{eqb}
@@ -11,7 +11,7 @@ use lib.Seq.{getD-at}
 use borrow.Author.Tests.{eqb-true, eqb-false}
 use Rattle.records.specs.Finite.{count}
 use Rattle.records.proofs.BoolLaws.{false-of}
-use Rattle.records.proofs.FiniteLaws.{none-count, count-mono}
+use Rattle.records.proofs.FiniteLaws.{none-count, count-mono, count-next, count-same}
 pub use Rattle.records.proofs.FiniteLaws.{count-le, any-of, any-found}
 use Rattle.chase.specs.Loops.{upto}
 use Rattle.chase.specs.Ground.{listing}
@@ -19,20 +19,12 @@ use Rattle.chase.proofs.TestLaws.{cond-elim, cond-elim₂}
 use Rattle.chase.proofs.Numbers.{up-to}
 
 module _ (test : ℕ → Bool) where
-  pub count-next : (n : ℕ) → So (test n) → count (suc n) test ≡ suc (count n test)
-  unfolding count
-  count-next n h = ap (λ (b : Bool). cond b (suc (count n test)) (count n test)) h
-
   -- a number that passes has fewer before it than any later number
   pub count-lt : (n i : ℕ) → i < n → So (test i) → count i test < count n test
   count-lt zero i h p = absurd (omega arith)
   count-lt (suc n) i h p =
       up-to (λ j. So (test j) → count j test < count (suc n) test) n
-      (λ j k q. omega (arith, count-lt n j k q, count-mono test n (suc n) (omega arith))) (λ q. omega (arith, count-next n q)) i h p
-
-  pub count-same : (n : ℕ) → test n ≡ false → count (suc n) test ≡ count n test
-  unfolding count
-  count-same n h = ap (λ (b : Bool). cond b (suc (count n test)) (count n test)) h
+      (λ j k q. omega (arith, count-lt n j k q, count-mono test n (suc n) (omega arith))) (λ q. omega (arith, count-next test n q)) i h p
 
   -- where just i passes
   pub count-once : (n i : ℕ) → i < n → So (test i) → ((j : ℕ) → j < n → So (test j) → j ≡ i) → count n test ≡ 1
@@ -40,11 +32,11 @@ module _ (test : ℕ → Bool) where
   count-once (suc n) i h p only =
       elim (decLt i n) [
         | yes k ↦
-            count-same n (false-of (test n) (λ q. omega (arith, only n (omega arith) q)))
+            count-same test n (false-of (test n) (λ q. omega (arith, only n (omega arith) q)))
             ∙ count-once n i k p (λ j l q. only j (omega arith) q)
         | no k ↦
             let e : i ≡ n = omega arith in
-            count-next n (subst (λ (j : ℕ). So (test j)) e p)
+            count-next test n (subst (λ (j : ℕ). So (test j)) e p)
             ∙ ap suc (none-count test n (λ j l. false-of (test j) (λ q. omega (arith, only j (omega arith) q))))
       ]
 
@@ -59,8 +51,8 @@ module _ (test : ℕ → Bool) where
   pick-is (suc n) d h =
       cond-elim X (test n)
       (λ p. cond-elim X (eqb (count n test) d) (λ e. (omega arith, p, eqb-true (count n test) d e))
-      (λ e. let ne : ¬ (count n test ≡ d) = eqb-false (count n test) d e in before (pick-is n d (omega (arith, count-next n p)))))
-      (λ p. before (pick-is n d (omega (arith, count-same n p))))
+      (λ e. let ne : ¬ (count n test ≡ d) = eqb-false (count n test) d e in before (pick-is n d (omega (arith, count-next test n p)))))
+      (λ p. before (pick-is n d (omega (arith, count-same test n p))))
     where
       X : ℕ → Type 0
       X i = (i < suc n) × So (test i) × (count i test ≡ d)

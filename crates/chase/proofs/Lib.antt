@@ -30,10 +30,8 @@ pub mod CandidateLaws
 pub mod Coverage
 pub mod Answers
 -- For the code: tokens and records, arrays, the written state.
-pub mod PileLaws
-pub mod SpellingLaws
-pub mod TokenLaws
-pub mod ReadingLaws
+pub mod QueryTokenLaws
+pub mod DeclaredLaws
 pub mod AcceptanceLaws
 pub mod ArrayLaws
 pub mod TargetLaws

@@ -2,7 +2,6 @@
 pub mod Loops
 pub mod ClassSet
 pub mod Axioms
-pub mod Steps
 pub mod Facts
 pub mod Declared
 pub mod Task
@@ -13,4 +12,4 @@ pub mod Closing
 pub mod Candidate
 pub mod Targets
 pub mod Written
-pub mod Tokens
+pub mod QueryTokens

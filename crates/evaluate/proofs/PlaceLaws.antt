@@ -15,8 +15,9 @@ use Rattle.records.specs.Layout.{conceptLayout, entries, stateLayout, objectPar
 use Rattle.records.specs.ConceptRecord.{Pile, tokenAt, pileAfter, topConcept, conceptOf}
 use Rattle.records.specs.StateRecord.{objects, stateOf}
 use Rattle.records.proofs.AcceptedLaws.{tokens-few, pile-concept}
-use Rattle.records.specs.Pile.{stepToken, below, HasConcept, HasPath}
-use Rattle.records.proofs.PileLaws.{PutsConcept, TakesBoth, TakesReached, TakesCommon, TakesStep, concept-later, path-later, concept-top, class-ends, everything-ends, constant-ends, both-ends, empty-ends, step-ends, reached-ends, common-ends, concept-token, path-token, left-of-concept, left-of-path, only-everything, only-empty}
+use Rattle.records.specs.Reading.{stepToken}
+use Rattle.records.specs.Pile.{below, HasConcept, HasPath}
+use Rattle.records.proofs.TopLaws.{PutsConcept, TakesBoth, TakesReached, TakesCommon, TakesStep, concept-later, path-later, concept-top, class-ends, everything-ends, constant-ends, both-ends, empty-ends, step-ends, reached-ends, common-ends, concept-token, path-token, left-of-concept, left-of-path, only-everything, only-empty}
 use Rattle.evaluate.specs.Selection.{Selection}
 use Rattle.evaluate.specs.Evaluable.{Evaluable}
 use Rattle.evaluate.specs.Rows.{SharedRow, Shared, Row, Below, Diagonal}

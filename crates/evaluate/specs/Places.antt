@@ -9,7 +9,8 @@ use Rattle.records.specs.Concept.{directionOf, Concept, both, reached, common, 
 use Rattle.records.specs.Layout.{conceptLayout, entries}
 use Rattle.records.specs.ConceptRecord.{Pile, pileAfter, topConcept}
 use Rattle.records.specs.StateRecord.{stateOf}
-use Rattle.records.specs.Pile.{topPath, below}
+use Rattle.records.specs.Reading.{topPath}
+use Rattle.records.specs.Pile.{below}
 use Rattle.evaluate.specs.Selection.{Selection, Relation}
 use Rattle.evaluate.specs.Evaluable.{Evaluable}
 

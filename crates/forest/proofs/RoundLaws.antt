@@ -14,9 +14,9 @@ use Rattle.records.specs.Refusal.{AcceptedSchema, AcceptedConcept}
 use Rattle.records.proofs.AcceptedLaws.{passes-5, passes-6}
 use Rattle.chase.specs.Loops.{upto}
 use Rattle.chase.specs.Ground.{Ground}
-use Rattle.chase.specs.Steps.{conceptSteps}
+use Rattle.records.specs.Steps.{conceptSteps}
 use Rattle.chase.specs.Forest.{Forest, bare, size, walk, walks}
-use Rattle.chase.specs.Tokens.{conceptAt, HasConcept}
+use Rattle.records.specs.Reading.{conceptAt, HasConcept}
 use Rattle.chase.proofs.AcceptanceLaws.{accepted-concept, accepted-limit}
 use Rattle.chase.proofs.SizeLaws.{walks-size}
 use Rattle.primary.specs.Formed.{maxNodes}

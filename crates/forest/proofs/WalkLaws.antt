@@ -2,7 +2,7 @@
 -- and nothing is taken back, and what they leave makes what the whole leaves.
 use Prim.Native.Nat.{ℕ, suc, _+_, _-_, _≤_, _<_, _^_}
 use native.Mathlib.Omega.{arith}
-use mathlib.Core.Bool.{Bool, true, false}
+use mathlib.Core.Bool.{Bool}
 use mathlib.Core.List.{List, _∷_}
 use mathlib.Core.Path.{_≡_, refl, sym, ap, ap₂, subst, _∙_}
 use lib.ListN.{length}
@@ -10,22 +10,18 @@ use types.Run.{OneOf}
 use denote.Enum.Declared.{tagOf}
 use Rattle.records.proofs.concept.Token.{the-type}
 use Rattle.records.specs.declared.concept.Token.the-variants.{Both, Empty, Reached, Common}
-use Rattle.records.specs.Concept.{forward, backward, directionOf, Concept, class, everything, constant, both, reached, common, Path, empty, step}
+use Rattle.records.specs.Concept.{directionOf, Concept, class, everything, constant, both, reached, common, Path, empty, step}
 use Rattle.records.specs.Layout.{viewSteps, maxAttributes, maxObjects}
 use Rattle.records.specs.Schema.{Schema}
 use Rattle.records.specs.SchemaRecord.{schemaOf}
 use Rattle.records.specs.ConceptRecord.{tokenAt}
-use Rattle.records.specs.Pile.{stepToken}
-use Rattle.records.proofs.PileLaws.{left-of-path, only-empty, path-token}
+use Rattle.records.specs.Reading.{stepToken, startOf, conceptAt, pathAt}
+use Rattle.records.proofs.PileLaws.{start-le}
+use Rattle.records.proofs.ReadingLaws.{Reads, ReadsStep, concept-reads, step-reads, concept-next, path-next, concept-token, path-token}
 use Rattle.chase.specs.Ground.{Ground}
-use Rattle.chase.specs.Steps.{conceptSteps, pathSteps}
+use Rattle.records.specs.Steps.{conceptSteps, pathSteps}
 use Rattle.chase.specs.Forest.{Forest, size, walk, trek, makeFor, next}
-use Rattle.chase.specs.Tokens.{startOf, conceptAt, pathAt}
-use Rattle.chase.proofs.PileLaws.{start-le}
 use Rattle.chase.proofs.SizeLaws.{trek-size}
-use Rattle.chase.proofs.TokenLaws.{Reads, ReadsStep, concept-reads, path-reads}
-use Rattle.chase.proofs.ReadingLaws.{trek-of}
-use Rattle.tokens.proofs.EndLaws.{concept-some, path-some, path-pile}
 use Rattle.ground.specs.Objects.{forestIn, groundIn}
 use Rattle.forest.specs.declared.places.Here.{Here}
 use Rattle.forest.specs.Kept.{Kept, Grows}
@@ -34,7 +30,7 @@ use Rattle.forest.specs.Making.{CanMakeFor}
 use Rattle.forest.specs.Walking.{Walking, walked, trekked, CanWalk, CanTrek, Walked, Trekked}
 use Rattle.forest.proofs.ObjectLaws.{ground-kept}
 use Rattle.forest.proofs.GrowLaws.{grows-then, grows-self, makeFor-more, listed}
-use Rattle.forest.proofs.ViewLaws.{view-short, step-attribute, left-of-concept, leaf-walk}
+use Rattle.forest.proofs.ViewLaws.{view-short, step-attribute, leaf-tags, leaf-walk}
 
 -- nothing is taken back
 module _ (S : Schema) (G : Ground) where
@@ -206,11 +202,7 @@ module _ {schema view edges objects : List ℕ} {g s at : ℕ} {h : Here} (can :
 module _ {schema view edges objects : List ℕ} {g s at : ℕ} {h : Here} (can : CanTrek schema view edges objects g s (suc at) h)
     (P : ℕ) (back : Bool) (is : tokenAt view at ≡ stepToken (directionOf back) P) where
   reads-step : ReadsStep view at (directionOf back) P
-  reads-step = go back is
-    where
-      go : (b : Bool) → tokenAt view at ≡ stepToken (directionOf b) P → ReadsStep view at (directionOf b) P
-      go true q = path-reads view at (stepToken backward P) (can .item) q
-      go false q = path-reads view at (stepToken forward P) (can .item) q
+  reads-step = step-reads view at (directionOf back) P (can .item) is
 
   abbrev first : Path
   first = pathAt view (startOf view at 1)
@@ -359,7 +351,7 @@ module _ {schema view edges objects : List ℕ} {g s at : ℕ} {h : Here} (can :
 module _ {schema view edges objects : List ℕ} {g s e : ℕ} {h : Here} where
   module _ (can : CanWalk schema view edges objects g s e h) where
     pub walk-after : e ≡ suc (e - 1)
-    walk-after = omega (arith, concept-some view e (can .item))
+    walk-after = concept-next view e (can .item)
 
     pub walk-short : e < 2 ^ 16
     walk-short = view-short schema view (can .walking .sound) e (can .walking .within)
@@ -371,17 +363,17 @@ module _ {schema view edges objects : List ℕ} {g s e : ℕ} {h : Here} where
         → Walked schema view edges objects g s e h after r
     walk-to {r} {after} y = subst (λ (d : ℕ). Walked schema view edges objects g s d h after r) (sym walk-after) y
 
-    pub walk-leaf : OneOf left-of-concept (tagOf the-type (tokenAt view (e - 1))) → Walked schema view edges objects g s e h objects (h .size)
+    pub walk-leaf : OneOf leaf-tags (tagOf the-type (tokenAt view (e - 1))) → Walked schema view edges objects g s e h objects (h .size)
     walk-leaf k =
         walk-to
         (grows-self (can .walking .kept)
         (sym
         (leaf-walk (schemaOf schema) (groundIn g objects edges) view (e - 1) s (standing h) (forestIn g (h .size) objects)
-        (tokenAt view (e - 1)) k (concept-reads view (e - 1) (tokenAt view (e - 1)) (walk-from .item) refl))))
+        (tokenAt view (e - 1)) k (concept-token view e (can .item) refl))))
 
   module _ (can : CanTrek schema view edges objects g s e h) where
     pub trek-after : e ≡ suc (e - 1)
-    trek-after = omega (arith, path-some view e (can .item))
+    trek-after = path-next view e (can .item)
 
     pub trek-short : e < 2 ^ 16
     trek-short = view-short schema view (can .walking .sound) e (can .walking .within)
@@ -393,12 +385,10 @@ module _ {schema view edges objects : List ℕ} {g s e : ℕ} {h : Here} where
         → Trekked schema view edges objects g s e h after r
     trek-to {r} {after} y = subst (λ (d : ℕ). Trekked schema view edges objects g s d h after r) (sym trek-after) y
 
-    pub trek-leaf : OneOf left-of-path (tagOf the-type (tokenAt view (e - 1))) → Trekked schema view edges objects g s e h objects h
-    trek-leaf k =
-        let is = only-empty (tokenAt view (e - 1)) k (path-token view (e - 1) e trek-after (path-pile view e (can .item))) in
-        let q
-        = trek-of (schemaOf schema) (groundIn g objects edges) view (suc (e - 1)) s (standing h) (forestIn g (h .size) objects) empty
-        (path-reads view (e - 1) Empty (trek-from .item) is .0) in
+    pub trek-leaf : tokenAt view (e - 1) ≡ Empty → Trekked schema view edges objects g s e h objects h
+    trek-leaf is =
+        let q : trekked schema edges objects g s h (pathAt view (suc (e - 1))) ≡ trekked schema edges objects g s h empty
+        = ap (trekked schema edges objects g s h) (path-token view e (can .item) is .0) in
         trek-to
         (record {
           grows = grows-self (can .walking .kept) (sym (ap (λ (x : Forest × List ℕ). x .0) q));

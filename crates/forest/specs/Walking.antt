@@ -8,8 +8,8 @@ use Rattle.records.specs.Layout.{conceptLayout, entries, viewSteps, maxObjects}
 use Rattle.records.specs.SchemaRecord.{signatureOf, schemaOf}
 use Rattle.records.specs.ConceptRecord.{conceptOf}
 use Rattle.records.specs.Refusal.{AcceptedSchema, AcceptedConcept}
-use Rattle.chase.specs.Steps.{conceptSteps, pathSteps}
-use Rattle.chase.specs.Tokens.{conceptAt, pathAt, HasConcept, HasPath}
+use Rattle.records.specs.Steps.{conceptSteps, pathSteps}
+use Rattle.records.specs.Reading.{conceptAt, pathAt, HasConcept, HasPath}
 use Rattle.chase.specs.Forest.{Forest, size, walk, trek, walks}
 use Rattle.primary.specs.Formed.{maxNodes}
 use Rattle.ground.specs.Objects.{forestIn, groundIn}

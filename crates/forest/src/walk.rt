@@ -8,7 +8,7 @@ use crate::places::next;
 use records::concept::Token;
 use records::concept::token_at;
 use records::concept::tokens;
-use tokens::start_of;
+use records::reading::start_of;
 ghost use Prim.Native.Nat.{suc, _≤_};
 ghost use mathlib.Core.Path.{_≡_};
 ghost use Rattle.records.specs.declared.concept.Token.the-variants.{Both, Common};
@@ -16,7 +16,7 @@ ghost use Rattle.records.specs.Layout.{viewSteps};
 ghost use Rattle.records.specs.SchemaRecord.{signatureOf};
 ghost use Rattle.records.specs.Concept.{directionOf};
 ghost use Rattle.records.specs.ConceptRecord.{tokenAt};
-ghost use Rattle.records.specs.Pile.{stepToken};
+ghost use Rattle.records.specs.Reading.{stepToken};
 ghost use Rattle.records.specs.Refusal.{AcceptedSchema, AcceptedConcept};
 ghost use Rattle.primary.specs.Formed.{maxNodes};
 ghost use Rattle.forest.specs.Kept.{Kept};
@@ -38,14 +38,16 @@ fn walk(
 {
     let at = end - 1;
     match token_at(view, at) {
+        // Nothing is made.
+        Token::Class(_) | Token::Everything | Token::Constant(_) => here.size,
         Token::Both => both(schema, view, edges, g, s, at, here, objects),
         Token::Reached => {
             let there = trek(schema, view, edges, g, s, at, here, objects);
             there.size
         }
         Token::Common => common(schema, view, edges, g, s, at, here, objects),
-        // A class, everything or a constant: nothing is made.
-        _ => here.size,
+        // A path's tokens end no concept.
+        Token::Empty | Token::Forward(_) | Token::Backward(_) => here.size,
     }
 }
 
@@ -106,10 +108,16 @@ fn trek(
 {
     let at = end - 1;
     match token_at(view, at) {
+        Token::Empty => here,
         Token::Forward(p) => step(schema, view, edges, g, s, at, p, false, here, objects),
         Token::Backward(p) => step(schema, view, edges, g, s, at, p, true, here, objects),
-        // The empty path.
-        _ => here,
+        // A concept's tokens end no path.
+        Token::Class(_)
+        | Token::Everything
+        | Token::Constant(_)
+        | Token::Both
+        | Token::Reached
+        | Token::Common => here,
     }
 }
 

@@ -11,7 +11,7 @@ use lib.Seq.{take-all, take-suc-set}
 use Rattle.records.specs.Finite.{any}
 use Rattle.records.proofs.FiniteLaws.{any-more}
 use Rattle.chase.specs.Task.{Task, nodes}
-use Rattle.chase.specs.Steps.{conceptSteps}
+use Rattle.records.specs.Steps.{conceptSteps}
 use Rattle.chase.specs.Primary.{Prime, repOf, numbersFrom, begin, primary, clash}
 use Rattle.primary.specs.Formed.{prime}
 use Rattle.primary.specs.Clash.{clashesWith, clashesIn}

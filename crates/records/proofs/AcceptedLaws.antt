@@ -17,9 +17,11 @@ use Rattle.records.specs.declared.state.StateAnswer.the-variants as stat
 use Rattle.records.specs.Finite.{any, count}
 use Rattle.records.specs.Layout.{schemaLayout, conceptLayout, stateLayout, entries, leftAt, rightAt, maxClasses, maxAttributes, maxConstants, maxAxioms, maxTokens, maxObjects, maxFacts}
 use Rattle.records.specs.SchemaRecord.{signatureOf, schemaOf, axiomKind}
+use Rattle.records.specs.Concept.{Direction, forward, backward}
 use Rattle.records.specs.ConceptRecord.{pileAfter, tokenAt}
 use Rattle.records.specs.StateRecord.{objects}
 use Rattle.records.specs.Refusal.{misshapen, outside, oversized, declares, faultyAxiom, suits, refusal-1, refusal-2, schemaAnswer, AcceptedSchema, faultyToken, isConcept, refusal-3, refusal-4, refusal-5, refusal-6, conceptAnswer, AcceptedConcept, faultyFact, ascends, descends, namesAt, shares, misnames, refusal-7, refusal-8, refusal-9, refusal-10, stateAnswer, AcceptedState}
+use Rattle.records.specs.Reading.{stepToken}
 use Rattle.records.specs.InRange.{AxiomInRange, TokenInRange}
 use Rattle.records.proofs.BoolLaws.{or-false-left, or-false-right, and-map, and-three-map}
 use Rattle.records.proofs.FiniteLaws.{any-none}
@@ -167,6 +169,10 @@ module _ (s : Signature) (classes : s .classes ≤ maxClasses) (attributes : s .
   suits-in-range c (Backward P) n h = attribute-below h
   suits-in-range c Reached n h = tt
   suits-in-range c Common n h = tt
+
+pub step-in-range : (r : Direction) {P : ℕ} → TokenInRange (stepToken r P) → P < maxAttributes
+step-in-range forward h = h
+step-in-range backward h = h
 
 module _ (schema : List ℕ) (ok : AcceptedSchema schema) where
   pub axiom-in-range : (i : ℕ) → i < entries schemaLayout schema → AxiomInRange (schemaOf schema .axiomAt i)

@@ -29,6 +29,14 @@ module _ (f : ℕ → Bool) where
   unfolding count
   count-more n = rw add-one
 
+  pub count-next : (n : ℕ) → So (f n) → count (suc n) f ≡ suc (count n f)
+  unfolding count
+  count-next n h = ap (λ (b : Bool). cond b (suc (count n f)) (count n f)) h
+
+  pub count-same : (n : ℕ) → f n ≡ false → count (suc n) f ≡ count n f
+  unfolding count
+  count-same n h = ap (λ (b : Bool). cond b (suc (count n f)) (count n f)) h
+
   pub count-le : (n : ℕ) → count n f ≤ n
   unfolding count
   count-le zero = omega arith

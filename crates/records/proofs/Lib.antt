@@ -8,5 +8,9 @@ pub mod AcceptedLaws
 pub mod ConceptScanLaws
 pub mod StateScanLaws
 pub mod PileLaws
+pub mod SpellingLaws
+pub mod ReadingLaws
+pub mod ReadingScanLaws
+pub mod TopLaws
 -- The twelve small states of document 01.
 pub mod Examples

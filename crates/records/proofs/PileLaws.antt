@@ -1,255 +1,227 @@
--- What stands on the pile of a concept record, read from the right: the item that ends at a place is made by the token
--- before it, from the items that end there. So an item's tokens start where the pile is what stands below the item.
-use Prim.Native.Nat.{ℕ, zero, suc, _<_}
-use mathlib.Core.Bool.{Bool, true, false, So, true≢false, false≢true}
-use mathlib.Core.List.{List, [], _∷_}
-use mathlib.Core.Option.{none, some}
-use mathlib.Core.Path.{_≡_, refl, sym, _∙_}
+-- The pile of a concept's tokens. An item on it ends in its own token, and before that token its operands stood in its place
+-- (pile-item); what stands below the k topmost items is the pile where their tokens start (start-pile).
+use Prim.Native.Nat.{ℕ, zero, suc, _+_, _≤_}
 use native.Mathlib.Omega.{arith}
-use types.Run.{OneOf, miss}
-use denote.Enum.Declared.{tagOf}
-use Rattle.records.proofs.concept.Token.{the-type}
+use native.Mathlib.Nat.{zero-add, add-zero, suc-add, add-assoc}
+use mathlib.Core.List.{List, [], _∷_, _++_}
+use mathlib.Core.Option.{none, some}
+use mathlib.Core.Path.{_≡_, refl, sym, ap, ap₂, _∙_}
+use lib.ListN.{length, drop, length-append}
+use lib.Seq.{drop-append-add}
 use Rattle.records.specs.declared.concept.Token.{Token}
 use Rattle.records.specs.declared.concept.Token.the-variants.{Class, Everything, Constant, Both, Empty, Forward, Backward, Reached, Common}
 use Rattle.records.specs.Concept.{Direction, forward, backward, Concept, class, everything, constant, both, reached, common, Path, empty, step}
-use Rattle.records.specs.ConceptRecord.{tokenAt, Item, Pile, takeConcept, takePath, push, after, pileAfter, topConcept}
-use Rattle.records.specs.Refusal.{isConcept}
-use Rattle.records.specs.Pile.{stepToken, topPath, below, HasConcept, HasPath}
+use Rattle.records.specs.ConceptRecord.{Item, concept, path, Pile, takeConcept, takePath, tokenAt, push, after, pileAfter}
+use Rattle.records.specs.Reading.{takes, startOf, stepToken}
 
--- What the pile p was before a token made it q, by what the token takes.
+-- an item's own token, its last one
+abbrev pub lastToken : Item → Token
+lastToken (concept (class A)) = Class A
+lastToken (concept everything) = Everything
+lastToken (concept (constant a)) = Constant a
+lastToken (concept (both C D)) = Both
+lastToken (concept (reached p)) = Reached
+lastToken (concept (common p q)) = Common
+lastToken (path empty) = Empty
+lastToken (path (step p r P C)) = stepToken r P
 
--- nothing, and put the concept
-pub record PutsConcept (C : Concept) (p q : Pile) : Type 0 where
-  pub top : topConcept q ≡ C
-  pub rest : below q ≡ p
+-- what that token takes, the last first
+abbrev pub operands : Item → List Item
+operands (concept (class A)) = []
+operands (concept everything) = []
+operands (concept (constant a)) = []
+operands (concept (both C D)) = concept D ∷ concept C ∷ []
+operands (concept (reached p)) = path p ∷ []
+operands (concept (common p q)) = path q ∷ path p ∷ []
+operands (path empty) = []
+operands (path (step p r P C)) = concept C ∷ path p ∷ []
 
--- nothing, and put the path
-pub record PutsPath (c : Path) (p q : Pile) : Type 0 where
-  pub top : topPath q ≡ c
-  pub rest : below q ≡ p
-
--- two concepts
-pub record TakesBoth (p q : Pile) : Type 0 where
-  pub last : HasConcept p
-  pub first : HasConcept (below p)
-  pub top : topConcept q ≡ both (topConcept (below p)) (topConcept p)
-  pub rest : below q ≡ below (below p)
-
--- a path and then the concept that the step lands on
-pub record TakesStep (r : Direction) (P : ℕ) (p q : Pile) : Type 0 where
-  pub last : HasConcept p
-  pub first : HasPath (below p)
-  pub top : topPath q ≡ step (topPath (below p)) r P (topConcept p)
-  pub rest : below q ≡ below (below p)
-
--- a path
-pub record TakesReached (p q : Pile) : Type 0 where
-  pub last : HasPath p
-  pub top : topConcept q ≡ reached (topPath p)
-  pub rest : below q ≡ below p
-
--- two paths
-pub record TakesCommon (p q : Pile) : Type 0 where
-  pub last : HasPath p
-  pub first : HasPath (below p)
-  pub top : topConcept q ≡ common (topPath (below p)) (topPath p)
-  pub rest : below q ≡ below (below p)
-
-abbrev isPath : Item → Bool
-isPath (Item.concept C) = false
-isPath (Item.path c) = true
-
--- the token puts a path, and not a concept
-abbrev pub putsPath : Token → Bool
-putsPath (Class A) = false
-putsPath Everything = false
-putsPath (Constant a) = false
-putsPath Both = false
-putsPath Empty = true
-putsPath (Forward P) = true
-putsPath (Backward P) = true
-putsPath Reached = false
-putsPath Common = false
+-- a pile that a token leaves: one item on what stands below its operands
+record Put (token : Token) (before after : List Item) : Type 0 where
+  item : Item
+  below : List Item
+  result : after ≡ item ∷ below
+  taken : before ≡ operands item ++ below
+  own : token ≡ lastToken item
 
 -- What was taken, where a pile is left of which X holds.
 
-pub took-concept : (X : Pile → Type 0) → (X none → ⊥) → (s : List Item) (rest : Concept → List Item → Pile) → X (takeConcept s rest) → (C : Concept) × (t : List Item) × (s ≡ Item.concept C ∷ t) × X (rest C t)
+took-concept : (X : Pile → Type 0) → (X none → ⊥) → (s : List Item) (rest : Concept → List Item → Pile) → X (takeConcept s rest) → (C : Concept) × (t : List Item) × (s ≡ concept C ∷ t) × X (rest C t)
 took-concept X bare [] rest h = absurd (bare h)
-took-concept X bare (Item.concept C ∷ s) rest h = (C, s, refl, h)
-took-concept X bare (Item.path c ∷ s) rest h = absurd (bare h)
+took-concept X bare (concept C ∷ s) rest h = (C, s, refl, h)
+took-concept X bare (path c ∷ s) rest h = absurd (bare h)
 
-pub took-path : (X : Pile → Type 0) → (X none → ⊥) → (s : List Item) (rest : Path → List Item → Pile) → X (takePath s rest) → (c : Path) × (t : List Item) × (s ≡ Item.path c ∷ t) × X (rest c t)
+took-path : (X : Pile → Type 0) → (X none → ⊥) → (s : List Item) (rest : Path → List Item → Pile) → X (takePath s rest) → (c : Path) × (t : List Item) × (s ≡ path c ∷ t) × X (rest c t)
 took-path X bare [] rest h = absurd (bare h)
-took-path X bare (Item.concept C ∷ s) rest h = absurd (bare h)
-took-path X bare (Item.path c ∷ s) rest h = (c, s, refl, h)
+took-path X bare (concept C ∷ s) rest h = absurd (bare h)
+took-path X bare (path c ∷ s) rest h = (c, s, refl, h)
 
--- Of any pile p.
+none≢some : (r : List Item) → _≡_ {A = Pile} none (some r) → ⊥
+none≢some r q = let z : _≡_ {A = ℕ} 0 1 = cc in omega arith
 
-leaf-after : (t : Token) (C : Concept) → ((s : List Item) → push t s ≡ some (Item.concept C ∷ s)) → (p : Pile) → HasConcept (after t p) → PutsConcept C p (after t p)
-leaf-after t C put none h = absurd h
-leaf-after t C put (some s) h = rw (put s) (record { top = refl; rest = refl })
+some-injective : (s r : List Item) → _≡_ {A = Pile} (some s) (some r) → r ≡ s
+some-injective s r q = cc
 
-both-after : (p : Pile) → HasConcept (after Both p) → TakesBoth p (after Both p)
-both-after none h = absurd h
-both-after (some s) h =
-    let (D, t, e, k) = took-concept HasConcept (λ x. x) s _ h in
-    let (C, u, f, l) = took-concept HasConcept (λ x. x) t _ k in
-    rw (e, f) (record { last = tt; first = tt; top = refl; rest = refl })
+-- a token that takes nothing, one item, or two
+puts-none : (x : Item) (s r : List Item) → operands x ≡ [] → _≡_ {A = Pile} (some (x ∷ s)) (some r) → Put (lastToken x) s r
+puts-none x s r o q = record {
+  item = x;
+  below = s;
+  result = some-injective (x ∷ s) r q;
+  taken = ap (λ (l : List Item). l ++ s)
+      (sym o);
+  own = refl;
+}
 
-empty-after : (p : Pile) → HasPath (after Empty p) → PutsPath empty p (after Empty p)
-empty-after none h = absurd h
-empty-after (some s) h = record { top = refl; rest = refl }
+puts-two : (x y z : Item) (s a b r : List Item) → operands x ≡ y ∷ z ∷ [] → s ≡ y ∷ a → a ≡ z ∷ b → _≡_ {A = Pile} (some (x ∷ b)) (some r)
+    → Put (lastToken x) s r
+puts-two x y z s a b r o e f q =
+    record {
+      item = x;
+      below = b;
+      result = some-injective (x ∷ b) r q;
+      taken = e ∙ ap (λ (l : List Item). y ∷ l) f ∙ ap (λ (l : List Item). l ++ b) (sym o);
+      own = refl;
+    }
 
-push-step : (r : Direction) (P : ℕ) (s : List Item) → push (stepToken r P) s ≡ takeConcept s λ C s. takePath s λ c s. some (Item.path (step c r P C) ∷ s)
-push-step forward P s = refl
-push-step backward P s = refl
+puts-step : (r : Direction) (P : ℕ) (s t : List Item)
+    → takeConcept s (λ C a. takePath a λ p b. some (path (step p r P C) ∷ b)) ≡ some t
+    → Put (stepToken r P) s t
+puts-step r P s t q =
+    let c = took-concept (λ x. x ≡ some t) (none≢some t) s _ q in
+    let p = took-path (λ x. x ≡ some t) (none≢some t) (c .1) _ (c .3) in
+    puts-two (path (step (p .0) r P (c .0))) (concept (c .0)) (path (p .0)) s (c .1) (p .1) t refl (c .2) (p .2) (p .3)
 
-step-sort : (X : Pile → Type 0) → (X none → ⊥) → (r : Direction) (P : ℕ) (s : List Item) → X (push (stepToken r P) s) → (x : Item) × (t : List Item) × (push (stepToken r P) s ≡ some (x ∷ t)) × (isPath x ≡ true)
-step-sort X bare r P s h =
-    let (C, t, e, k) = took-concept X bare s _ (rw (push-step r P s) at h) in
-    let (c, u, f, l) = took-path X bare t _ k in
-    rw (push-step r P s, e, f) (_, u, refl, refl)
+push-puts : (token : Token) (s r : List Item) → push token s ≡ some r → Put token s r
+push-puts (Class A) s r q = puts-none (concept (class A)) s r refl q
+push-puts Everything s r q = puts-none (concept everything) s r refl q
+push-puts (Constant a) s r q = puts-none (concept (constant a)) s r refl q
+push-puts Both s r q =
+    let d = took-concept (λ x. x ≡ some r) (none≢some r) s _ q in
+    let c = took-concept (λ x. x ≡ some r) (none≢some r) (d .1) _ (d .3) in
+    puts-two (concept (both (c .0) (d .0))) (concept (d .0)) (concept (c .0)) s (d .1) (c .1) r refl (d .2) (c .2) (c .3)
+push-puts Empty s r q = puts-none (path empty) s r refl q
+push-puts (Forward P) s r q = puts-step forward P s r q
+push-puts (Backward P) s r q = puts-step backward P s r q
+push-puts Reached s r q =
+    let p = took-path (λ x. x ≡ some r) (none≢some r) s _ q in
+    record { item = concept (reached (p .0)); below = p .1; result = some-injective _ r (p .3); taken = p .2; own = refl }
+push-puts Common s r q =
+    let b = took-path (λ x. x ≡ some r) (none≢some r) s _ q in
+    let a = took-path (λ x. x ≡ some r) (none≢some r) (b .1) _ (b .3) in
+    puts-two (concept (common (a .0) (b .0))) (path (b .0)) (path (a .0)) s (b .1) (a .1) r refl (b .2) (a .2) (a .3)
 
-step-after : (r : Direction) (P : ℕ) (p : Pile) → HasPath (after (stepToken r P) p) → TakesStep r P p (after (stepToken r P) p)
-step-after r P none h = absurd h
-step-after r P (some s) h =
-    let (C, t, e, k) = took-concept HasPath (λ x. x) s _ (rw (push-step r P s) at h) in
-    let (c, u, f, l) = took-path HasPath (λ x. x) t _ k in
-    rw (push-step r P s, e, f) (record { last = tt; first = tt; top = refl; rest = refl })
+takes-operands : (x : Item) → takes (lastToken x) ≡ length (operands x)
+unfolding takes
+takes-operands (concept (class A)) = refl
+takes-operands (concept everything) = refl
+takes-operands (concept (constant a)) = refl
+takes-operands (concept (both C D)) = refl
+takes-operands (concept (reached p)) = refl
+takes-operands (concept (common p q)) = refl
+takes-operands (path empty) = refl
+takes-operands (path (step p forward P C)) = refl
+takes-operands (path (step p backward P C)) = refl
 
-reached-after : (p : Pile) → HasConcept (after Reached p) → TakesReached p (after Reached p)
-reached-after none h = absurd h
-reached-after (some s) h =
-    let (c, t, e, k) = took-path HasConcept (λ x. x) s _ h in
-    rw e (record { last = tt; top = refl; rest = refl })
-
-common-after : (p : Pile) → HasConcept (after Common p) → TakesCommon p (after Common p)
-common-after none h = absurd h
-common-after (some s) h =
-    let (d, t, e, k) = took-path HasConcept (λ x. x) s _ h in
-    let (c, u, f, l) = took-path HasConcept (λ x. x) t _ k in
-    rw (e, f) (record { last = tt; first = tt; top = refl; rest = refl })
-
--- the top is what the token puts
-sort-after : (X : Pile → Type 0) → (X none → ⊥) → (t : Token) (p : Pile) → X (after t p) → (x : Item) × (s : List Item) × (after t p ≡ some (x ∷ s)) × (isPath x ≡ putsPath t)
-sort-after X bare t none h = absurd (bare h)
-sort-after X bare (Class A) (some s) h = (_, s, refl, refl)
-sort-after X bare Everything (some s) h = (_, s, refl, refl)
-sort-after X bare (Constant a) (some s) h = (_, s, refl, refl)
-sort-after X bare Both (some s) h =
-    let (D, t, e, k) = took-concept X bare s _ h in
-    let (C, u, f, l) = took-concept X bare t _ k in
-    rw (e, f) (_, u, refl, refl)
-sort-after X bare Empty (some s) h = (_, s, refl, refl)
-sort-after X bare (Forward P) (some s) h = step-sort X bare forward P s h
-sort-after X bare (Backward P) (some s) h = step-sort X bare backward P s h
-sort-after X bare Reached (some s) h =
-    let (c, t, e, k) = took-path X bare s _ h in
-    rw e (_, t, refl, refl)
-sort-after X bare Common (some s) h =
-    let (d, t, e, k) = took-path X bare s _ h in
-    let (c, u, f, l) = took-path X bare t _ k in
-    rw (e, f) (_, u, refl, refl)
-
-concept-after : (t : Token) (p : Pile) → HasConcept (after t p) → putsPath t ≡ false
-concept-after t p h = let (x, s, e, k) = sort-after HasConcept (λ x. x) t p h in sym k ∙ pick x s (rw e at h)
-  where
-    pick : (x : Item) (s : List Item) → HasConcept (some (x ∷ s)) → isPath x ≡ false
-    pick (Item.concept C) s h = refl
-    pick (Item.path c) s h = absurd h
-
-path-after : (t : Token) (p : Pile) → HasPath (after t p) → putsPath t ≡ true
-path-after t p h = let (x, s, e, k) = sort-after HasPath (λ x. x) t p h in sym k ∙ pick x s (rw e at h)
-  where
-    pick : (x : Item) (s : List Item) → HasPath (some (x ∷ s)) → isPath x ≡ true
-    pick (Item.concept C) s h = absurd h
-    pick (Item.path c) s h = refl
-
--- nothing stands on the pile at the start
-later : (X : Pile → Type 0) → (X (some []) → ⊥) → (w : List ℕ) (e : ℕ) → X (pileAfter w e) → 0 < e
-unfolding pileAfter
-later X bare w zero h = absurd (bare h)
-later X bare w (suc e) h = omega arith
-
-pub concept-later : (w : List ℕ) (e : ℕ) → HasConcept (pileAfter w e) → 0 < e
-concept-later = later HasConcept (λ h. h)
-
-pub path-later : (w : List ℕ) (e : ℕ) → HasPath (pileAfter w e) → 0 < e
-path-later = later HasPath (λ h. h)
-
--- an accepted concept ends with a concept
-pub concept-top : (p : Pile) → So (isConcept p) → HasConcept p
-concept-top none h = absurd (false≢true h)
-concept-top (some []) h = absurd (false≢true h)
-concept-top (some (Item.concept C ∷ [])) h = tt
-concept-top (some (Item.concept C ∷ x ∷ s)) h = tt
-concept-top (some (Item.path c ∷ s)) h = absurd (false≢true h)
-
--- At a token e of the record, with the place `end` after it.
-module _ (w : List ℕ) (e end : ℕ) (next : end ≡ suc e) where
-  made : {t : Token} → tokenAt w e ≡ t → pileAfter w end ≡ after t (pileAfter w e)
+module _ (w : List ℕ) where
+  -- an item on the pile: its own token was the last, and its operands stood in its place
+  pile-item : (e : ℕ) (x : Item) (r : List Item) → pileAfter w (suc e) ≡ some (x ∷ r)
+      → (tokenAt w e ≡ lastToken x) × (pileAfter w e ≡ some (operands x ++ r))
   unfolding pileAfter
-  made is = rw (next, is)
+  pile-item e x r = go (pileAfter w e) refl
+    where
+      go : (p : Pile) → pileAfter w e ≡ p → after (tokenAt w e) p ≡ some (x ∷ r)
+          → (tokenAt w e ≡ lastToken x) × (pileAfter w e ≡ some (operands x ++ r))
+      go none f q = absurd (none≢some (x ∷ r) q)
+      go (some s) f q =
+          let u = push-puts (tokenAt w e) s (x ∷ r) q in
+          let g : x ∷ r ≡ u .item ∷ u .below = u .result in
+          let i : u .item ≡ x = cc in
+          let b : u .below ≡ r = cc in
+          (u .own ∙ ap lastToken i, f ∙ ap {B = Pile} some (u .taken ∙ ap₂ (λ (y : Item) (l : List Item). operands y ++ l) i b))
 
-  ends : (X : Pile → Type 0) (Y : Pile → Pile → Type 0) {t : Token} → ((p : Pile) → X (after t p) → Y p (after t p)) → tokenAt w e ≡ t → X (pileAfter w end) → Y (pileAfter w e) (pileAfter w end)
-  ends X Y law is h = rw (made is) (law (pileAfter w e) (rw (made is) at h))
+  -- each token puts an item
+  pub pile-empty : (e : ℕ) → pileAfter w e ≡ some [] → e ≡ zero
+  unfolding pileAfter
+  pile-empty zero q = refl
+  pile-empty (suc e) q = go (pileAfter w e) q
+    where
+      go : (p : Pile) → after (tokenAt w e) p ≡ some [] → suc e ≡ zero
+      go none q = absurd (none≢some [] q)
+      go (some s) q = let f = push-puts (tokenAt w e) s [] q .result in absurd (let z : _≡_ {A = ℕ} 0 1 = cc in omega arith)
 
-  pub class-ends : {A : ℕ} → tokenAt w e ≡ Class A → HasConcept (pileAfter w end) → PutsConcept (class A) (pileAfter w e) (pileAfter w end)
-  class-ends {A} = ends HasConcept (PutsConcept (class A)) (leaf-after (Class A) (class A) (λ s. refl))
+  pile-zero : (s : List Item) → pileAfter w zero ≡ some s → s ≡ []
+  unfolding pileAfter
+  pile-zero s q = some-injective [] s q
 
-  pub everything-ends : tokenAt w e ≡ Everything → HasConcept (pileAfter w end) → PutsConcept everything (pileAfter w e) (pileAfter w end)
-  everything-ends = ends HasConcept (PutsConcept everything) (leaf-after Everything everything (λ s. refl))
+  start-add : (e j k : ℕ) → startOf w e (j + k) ≡ startOf w (startOf w e j) k
+  unfolding startOf
+  start-add zero j k = refl
+  start-add (suc e) zero k = ap (startOf w (suc e)) (zero-add k)
+  start-add (suc e) (suc j) k =
+      ap (startOf w (suc e)) (suc-add j k) ∙ ap (startOf w e) (sym (add-assoc (takes (tokenAt w e)) j k)) ∙ start-add e
+      (takes (tokenAt w e) + j) k
 
-  pub constant-ends : {a : ℕ} → tokenAt w e ≡ Constant a → HasConcept (pileAfter w end) → PutsConcept (constant a) (pileAfter w e) (pileAfter w end)
-  constant-ends {a} = ends HasConcept (PutsConcept (constant a)) (leaf-after (Constant a) (constant a) (λ s. refl))
+  pub start-le : (e k : ℕ) → startOf w e k ≤ e
+  unfolding startOf
+  start-le zero k = omega arith
+  start-le (suc e) zero = omega arith
+  start-le (suc e) (suc k) = omega (arith, start-le e (takes (tokenAt w e) + k))
 
-  pub both-ends : tokenAt w e ≡ Both → HasConcept (pileAfter w end) → TakesBoth (pileAfter w e) (pileAfter w end)
-  both-ends = ends HasConcept TakesBoth both-after
+  -- below the k topmost items stands the pile where their tokens start
+  pub start-pile : (e k : ℕ) (s : List Item) → pileAfter w e ≡ some s → k ≤ length s → pileAfter w (startOf w e k) ≡ some (drop k s)
+  unfolding startOf
+  start-pile zero zero s q h = q
+  start-pile zero (suc k) s q h = absurd (omega (arith, ap length (pile-zero s q)))
+  start-pile (suc e) zero s q h = q
+  start-pile (suc e) (suc k) [] q h = absurd (omega arith)
+  start-pile (suc e) (suc k) (x ∷ r) q h =
+      let i = pile-item e x r q in
+      let t : takes (tokenAt w e) ≡ length (operands x) = ap takes (i .0) ∙ takes-operands x in
+      start-pile e (takes (tokenAt w e) + k) (operands x ++ r) (i .1) (omega (arith, t, length-append (operands x) r))
+      ∙ ap {B = Pile} some (ap (λ (n : ℕ). drop (n + k) (operands x ++ r)) t ∙ drop-append-add (operands x) r k)
 
-  pub empty-ends : tokenAt w e ≡ Empty → HasPath (pileAfter w end) → PutsPath empty (pileAfter w e) (pileAfter w end)
-  empty-ends = ends HasPath (PutsPath empty) empty-after
+  -- item x ends at token e
+  unfoldable pub Ends : Item → ℕ → Type 0
+  Ends x e = (s : List Item) × (pileAfter w e ≡ some (x ∷ s))
 
-  pub step-ends : (r : Direction) {P : ℕ} → tokenAt w e ≡ stepToken r P → HasPath (pileAfter w end) → TakesStep r P (pileAfter w e) (pileAfter w end)
-  step-ends r {P} = ends HasPath (TakesStep r P) (step-after r P)
+  -- .. after one token at least
+  pub at-suc : (X : ℕ → Type 0) (x : Item) (e : ℕ) → Ends x e → ((d : ℕ) → Ends x (suc d) → X (suc d)) → X e
+  unfolding Ends
+  at-suc X x zero h f = absurd (omega (arith, ap length (pile-zero (x ∷ h .0) (h .1))))
+  at-suc X x (suc d) h f = f d h
 
-  pub reached-ends : tokenAt w e ≡ Reached → HasConcept (pileAfter w end) → TakesReached (pileAfter w e) (pileAfter w end)
-  reached-ends = ends HasConcept TakesReached reached-after
+  pub ends-token : (x : Item) (e : ℕ) → Ends x (suc e) → tokenAt w e ≡ lastToken x
+  unfolding Ends
+  ends-token x e h = pile-item e x (h .0) (h .1) .0
 
-  pub common-ends : tokenAt w e ≡ Common → HasConcept (pileAfter w end) → TakesCommon (pileAfter w e) (pileAfter w end)
-  common-ends = ends HasConcept TakesCommon common-after
+  -- the operands, where they end, and where the whole starts
+  start-one : (x : Item) (e : ℕ) → Ends x (suc e) → startOf w (suc e) 1 ≡ startOf w e (length (operands x))
+  unfolding startOf
+  start-one x e h = ap (startOf w e) (add-zero (takes (tokenAt w e)) ∙ ap takes (ends-token x e h) ∙ takes-operands x)
 
-  -- no other token ends a concept, and no other a path
-  pub concept-token : HasConcept (pileAfter w end) → putsPath (tokenAt w e) ≡ false
-  concept-token h = concept-after (tokenAt w e) (pileAfter w e) (rw (made refl) at h)
+  start-none : (e : ℕ) → startOf w e 0 ≡ e
+  unfolding startOf
+  start-none zero = refl
+  start-none (suc e) = refl
 
-  pub path-token : HasPath (pileAfter w end) → putsPath (tokenAt w e) ≡ true
-  path-token h = path-after (tokenAt w e) (pileAfter w e) (rw (made refl) at h)
+  pub ends-none : (x : Item) (e : ℕ) → operands x ≡ [] → Ends x (suc e) → startOf w (suc e) 1 ≡ e
+  ends-none x e o h = start-one x e h ∙ ap (λ (l : List Item). startOf w e (length l)) o ∙ start-none e
 
--- the tokens by their places in the enum: those that the code does not name where a concept ends, and where a path ends
-abbrev pub left-of-concept : List ℕ
-left-of-concept = 1 ∷ 4 ∷ 5 ∷ 6 ∷ []
+  pub ends-one : (x y : Item) (e : ℕ) → operands x ≡ y ∷ [] → Ends x (suc e) → Ends y e × (startOf w (suc e) 1 ≡ startOf w e 1)
+  unfolding Ends
+  ends-one x y e o h = (
+    (h .0, pile-item e x (h .0) (h .1) .1 ∙ ap (λ (l : List Item). some (l ++ h .0)) o),
+    start-one x e h ∙ ap (λ (l : List Item). startOf w e (length l)) o,
+  )
 
-abbrev pub left-of-path : List ℕ
-left-of-path = 0 ∷ 1 ∷ 2 ∷ 3 ∷ 4 ∷ 7 ∷ 8 ∷ []
-
-pub only-everything : (t : Token) → OneOf left-of-concept (tagOf the-type t) → putsPath t ≡ false → t ≡ Everything
-only-everything (Class A) k h = absurd (miss left-of-concept 0 tt k)
-only-everything Everything k h = refl
-only-everything (Constant a) k h = absurd (miss left-of-concept 2 tt k)
-only-everything Both k h = absurd (miss left-of-concept 3 tt k)
-only-everything Empty k h = absurd (true≢false h)
-only-everything (Forward P) k h = absurd (true≢false h)
-only-everything (Backward P) k h = absurd (true≢false h)
-only-everything Reached k h = absurd (miss left-of-concept 7 tt k)
-only-everything Common k h = absurd (miss left-of-concept 8 tt k)
-
-pub only-empty : (t : Token) → OneOf left-of-path (tagOf the-type t) → putsPath t ≡ true → t ≡ Empty
-only-empty (Class A) k h = absurd (false≢true h)
-only-empty Everything k h = absurd (false≢true h)
-only-empty (Constant a) k h = absurd (false≢true h)
-only-empty Both k h = absurd (false≢true h)
-only-empty Empty k h = refl
-only-empty (Forward P) k h = absurd (miss left-of-path 5 tt k)
-only-empty (Backward P) k h = absurd (miss left-of-path 6 tt k)
-only-empty Reached k h = absurd (false≢true h)
-only-empty Common k h = absurd (false≢true h)
+  pub ends-two : (x y z : Item) (e : ℕ) → operands x ≡ y ∷ z ∷ [] → Ends x (suc e)
+      → Ends y e × Ends z (startOf w e 1) × (startOf w (suc e) 1 ≡ startOf w (startOf w e 1) 1)
+  unfolding Ends
+  ends-two x y z e o h =
+      let q : pileAfter w e ≡ some (y ∷ z ∷ h .0) = pile-item e x (h .0) (h .1) .1 ∙ ap {B = Pile}
+      (λ (l : List Item). some (l ++ h .0)) o in (
+        (z ∷ h .0, q),
+        (h .0, start-pile e 1 (y ∷ z ∷ h .0) q (omega arith)),
+        start-one x e h ∙ ap (λ (l : List Item). startOf w e (length l)) o ∙ start-add e 1 1,
+      )

@@ -17,6 +17,9 @@ pub mod Refusal
 pub mod Outcome
 -- The semantics as tests that compute, for the worked examples.
 pub mod Executable
+-- A concept's tokens, read from the right.
+pub mod Steps
+pub mod Reading
 -- What contracts of helper functions cite, and nothing above them.
 pub mod Scan
 pub mod Pile

@@ -1,23 +1,7 @@
--- What stands on the pile: its top, and the rest below it; and the token of a step. Contracts of functions that read a concept
--- from the right cite it.
-use Prim.Native.Nat.{ℕ}
+-- What stands on the pile: its top, and the rest below it.
 use mathlib.Core.List.{[], _∷_}
 use mathlib.Core.Option.{none, some}
-use Rattle.records.specs.declared.concept.Token.{Token}
-use Rattle.records.specs.declared.concept.Token.the-variants.{Forward, Backward}
-use Rattle.records.specs.Concept.{Direction, forward, backward, Path, empty}
 use Rattle.records.specs.ConceptRecord.{Item, Pile}
-
-abbrev pub stepToken : Direction → ℕ → Token
-stepToken forward P = Forward P
-stepToken backward P = Backward P
-
--- the path on top (any, where there is none)
-abbrev pub topPath : Pile → Path
-topPath none = empty
-topPath (some []) = empty
-topPath (some (Item.concept C ∷ s)) = empty
-topPath (some (Item.path p ∷ s)) = p
 
 -- the pile without its top
 abbrev pub below : Pile → Pile

@@ -2,5 +2,6 @@
 // Every function takes arbitrary words. What the records mean is in specs/.
 pub mod concept;
 pub mod layout;
+pub mod reading;
 pub mod schema;
 pub mod state;

@@ -1,12 +1,12 @@
 -- The span of tokens falls: an operand ends before its item does, and the measure is twice the place where the item ends.
 -- A token's own function stands between: its measure is one more than that of the operands that end at its place. Each answer
 -- cites what the operands' facts make (ItemLaws).
-use mathlib.Core.Bool.{true, false}
 use mathlib.Core.Path.{sym, _∙_}
-use Rattle.chase.proofs.PileLaws.{start-le}
-use Rattle.tokens.proofs.EndLaws.{concept-some, path-some}
+use Rattle.records.specs.Concept.{directionOf}
+use Rattle.records.proofs.PileLaws.{start-le}
+use Rattle.records.proofs.ReadingLaws.{concept-some, path-some, concept-next, path-next, concept-reads, step-reads, concept-suc, path-suc, concept-token, path-token, concept-not-path, path-not-concept}
 use Rattle.asked.proofs.PlaceLaws.{place-earlier, place-node, place-room, place-small, place-number}
-use Rattle.asked.proofs.ItemLaws.{place-between, place-below, place-after, both-grown, common-grown, step-grown, left-small, right-small, concept-next, concept-token, concept-named, class-put, constant-put, both-put, reached-put, common-put, everything-put, path-next, step-token, step-named, step-put, empty-put}
+use Rattle.asked.proofs.ItemLaws.{place-between, place-below, place-after, both-grown, common-grown, step-grown, left-small, right-small, token-named, step-named, class-grown, constant-grown, reached-grown, everything-grown, empty-grown, concept-place, path-place, concept-put, path-put}
 use native.Mathlib.Omega.{arith}
 use borrow.Author.Needs.{needs}
 use Prim.Native.Nat.{ℕ, suc, _*_, _<_}
@@ -31,9 +31,9 @@ use Rattle.asked.proofs.words.add_edge.Reads as add-edge-reads
 use Rattle.asked.proofs.words.add_equation.Reads as add-equation-reads
 use Rattle.asked.proofs.words.add_member.Reads as add-member-reads
 use Rattle.records.proofs.concept.token_at.Reads as token-at-reads
-use Rattle.tokens.proofs.end_of.Reads as end-of-reads
-use Rattle.tokens.proofs.start_of.Reads as start-of-reads
-use Rattle.tokens.proofs.step_number.Reads as step-number-reads
+use Rattle.asked.proofs.items.end_of.Reads as end-of-reads
+use Rattle.records.proofs.reading.start_of.Reads as start-of-reads
+use Rattle.records.proofs.reading.step_number.Reads as step-number-reads
 use Rattle.asked.proofs.items.+both+common+concept+path+step.{statement}
 use Rattle.asked.proofs.items.+both+common+concept+path+step.Tie.{close}
 
@@ -98,37 +98,65 @@ abbrev both-calls : ℕ → both-lts.Claims
 both-calls t = (concept-below t, concept.Post, start-of-reads.Asked, start-of-reads.Learnt)
 
 both-concept-requires : (t : ℕ) → both-lts.Need-concept-requires (both-calls t) (both-at t) both.Post
-both-concept-requires t c κs = (omega (arith, c .before .pre .0), (place-earlier (c .before .pre .1 .0) (omega arith), c .before .pre .1 .1 .0))
+both-concept-requires t c κs =
+    let s = c .before in
+    let r = concept-reads (s .args .query .now) (s .args .at) _ (s .pre .1 .1 .0) (s .pre .1 .1 .1) in
+    (omega (arith, s .pre .0), (place-earlier (s .pre .1 .0) (omega arith), r .2))
 
 both-start-of-requires : (t : ℕ) → both-lts.Need-start-of-requires (both-calls t) (both-at t) both.Post
 both-start-of-requires t c κs = omega (arith, place-small (c .before .before .pre .1 .0))
 
 both-concept-requires-2 : (t : ℕ) → both-lts.Need-concept-requires-2 (both-calls t) (both-at t) both.Post
-both-concept-requires-2 t c κs = (omega (arith, c .before .before .before .pre .0, c .start-of .ensures, start-le (c .before .before .before .args .query .now) (c .before .before .before .args .end) 1), (place-below (c .before .before .before .pre .1 .0) (c .start-of .ensures) (c .before .concept .ensures), rw (c .start-of .ensures) (c .before .before .before .pre .1 .1 .1)))
+both-concept-requires-2 t c κs =
+    let s = c .before .before .before in
+    let r = concept-reads (s .args .query .now) (s .args .at) _ (s .pre .1 .1 .0) (s .pre .1 .1 .1) in
+    (omega (arith, s .pre .0, c .start-of .ensures, start-le (s .args .query .now) (s .args .at) 1), (place-below (s .pre .1 .0) (c .start-of .ensures) (c .before .concept .ensures), rw (c .start-of .ensures) (r .3)))
 
 both-returns : (t : ℕ) → both-lts.Need-returns (both-calls t) (both-at t) both.Post
-both-returns t c = both-grown (c .before .before .before .before .pre .1 .0) (c .before .start-of .ensures) (c .before .before .concept .ensures) (c .concept2 .ensures)
+both-returns t c =
+    let s = c .before .before .before .before in
+    let r = concept-reads (s .args .query .now) (s .args .at) _ (s .pre .1 .1 .0) (s .pre .1 .1 .1) in
+    both-grown (s .pre .1 .0) (c .before .start-of .ensures) r (c .before .before .concept .ensures) (c .concept2 .ensures)
 
 common-path-requires : (t : ℕ) → common-lts.Need-path-requires (common-calls t) (common-at t) common.Post
-common-path-requires t c κs = (omega (arith, c .before .pre .0), (place-earlier (c .before .pre .1 .0) (omega arith), c .before .pre .1 .1 .0))
+common-path-requires t c κs =
+    let s = c .before in
+    let r = concept-reads (s .args .query .now) (s .args .at) _ (s .pre .1 .1 .0) (s .pre .1 .1 .1) in
+    (omega (arith, s .pre .0), (place-earlier (s .pre .1 .0) (omega arith), r .2))
 
 common-start-of-requires : (t : ℕ) → common-lts.Need-start-of-requires (common-calls t) (common-at t) common.Post
 common-start-of-requires t c κs = omega (arith, place-small (c .before .before .pre .1 .0))
 
 common-end-of-requires : (t : ℕ) → common-lts.Need-end-of-requires (common-calls t) (common-at t) common.Post
-common-end-of-requires t c κs = (place-small (place-below (c .before .before .before .pre .1 .0) (c .start-of .ensures) (c .before .path .ensures)), rw (c .start-of .ensures) (c .before .before .before .pre .1 .1 .1))
+common-end-of-requires t c κs =
+    let s = c .before .before .before in
+    let r = concept-reads (s .args .query .now) (s .args .at) _ (s .pre .1 .1 .0) (s .pre .1 .1 .1) in
+    (place-small (place-below (s .pre .1 .0) (c .start-of .ensures) (c .before .path .ensures)), rw (c .start-of .ensures) (r .3))
 
 common-end-of-requires-2 : (t : ℕ) → common-lts.Need-end-of-requires-2 (common-calls t) (common-at t) common.Post
-common-end-of-requires-2 t c κs = (omega (arith, place-small (c .before .before .before .before .pre .1 .0)), c .before .before .before .before .pre .1 .1 .0)
+common-end-of-requires-2 t c κs =
+    let s = c .before .before .before .before in
+    let r = concept-reads (s .args .query .now) (s .args .at) _ (s .pre .1 .1 .0) (s .pre .1 .1 .1) in
+    (omega (arith, place-small (s .pre .1 .0)), r .2)
 
 common-add-equation-requires : (t : ℕ) → common-lts.Need-add-equation-requires (common-calls t) (common-at t) common.Post
-common-add-equation-requires t c κs = (place-room (place-between (c .before .before .before .before .before .pre .1 .0) (c .before .before .start-of .ensures) (c .before .before .before .path .ensures)) (omega arith), (left-small (c .before .before .before .before .before .pre .1 .0) (c .before .before .start-of .ensures) (c .before .before .before .before .before .pre .1 .1 .1) (c .before .end-of .ensures), right-small (c .before .before .before .before .before .pre .1 .0) (c .before .before .before .before .before .pre .1 .1 .0) (c .end-of2 .ensures)))
+common-add-equation-requires t c κs =
+    let s = c .before .before .before .before .before in
+    let r = concept-reads (s .args .query .now) (s .args .at) _ (s .pre .1 .1 .0) (s .pre .1 .1 .1) in
+    (place-room (place-between (s .pre .1 .0) (c .before .before .start-of .ensures) (c .before .before .before .path .ensures)) (omega arith), (left-small (s .pre .1 .0) (c .before .before .start-of .ensures) (r .3) (c .before .end-of .ensures), right-small (s .pre .1 .0) (r .2) (c .end-of2 .ensures)))
 
 common-path-requires-2 : (t : ℕ) → common-lts.Need-path-requires-2 (common-calls t) (common-at t) common.Post
-common-path-requires-2 t c κs = (omega (arith, c .before .before .before .before .before .before .pre .0, c .before .before .before .start-of .ensures, start-le (c .before .before .before .before .before .before .args .query .now) (c .before .before .before .before .before .before .args .end) 1), (place-after (c .before .before .before .before .before .before .pre .1 .0) (c .before .before .before .start-of .ensures) (c .before .before .before .before .path .ensures) (c .add-equation .ensures), rw (c .before .before .before .start-of .ensures) (c .before .before .before .before .before .before .pre .1 .1 .1)))
+common-path-requires-2 t c κs =
+    let s = c .before .before .before .before .before .before in
+    let r = concept-reads (s .args .query .now) (s .args .at) _ (s .pre .1 .1 .0) (s .pre .1 .1 .1) in
+    (omega (arith, s .pre .0, c .before .before .before .start-of .ensures, start-le (s .args .query .now) (s .args .at) 1), (place-after (s .pre .1 .0) (c .before .before .before .start-of .ensures) (c .before .before .before .before .path .ensures) (c .add-equation .ensures), rw (c .before .before .before .start-of .ensures) (r .3)))
 
 common-returns : (t : ℕ) → common-lts.Need-returns (common-calls t) (common-at t) common.Post
-common-returns t c = common-grown (c .before .before .before .before .before .before .before .pre .1 .0) (c .before .before .before .before .start-of .ensures) (c .before .before .before .end-of .ensures) (c .before .before .end-of2 .ensures) (c .before .before .before .before .before .path .ensures) (c .before .add-equation .ensures) (c .path2 .ensures)
+common-returns t c =
+    let s = c .before .before .before .before .before .before .before in
+    let r = concept-reads (s .args .query .now) (s .args .at) _ (s .pre .1 .1 .0) (s .pre .1 .1 .1) in
+    common-grown (s .pre .1 .0) (c .before .before .before .before .start-of .ensures) r (c .before .before .before .end-of .ensures)
+    (c .before .before .end-of2 .ensures) (c .before .before .before .before .before .path .ensures) (c .before .add-equation .ensures) (c .path2 .ensures)
 
 concept-sub-at : (t : ℕ) → concept-lts.Need-sub-at (concept-calls t) (concept-at t) concept.Post
 concept-sub-at t c = concept-some (c .before .args .query .now) _ (c .before .pre .1 .1)
@@ -140,52 +168,98 @@ concept-enum-known-a : (t : ℕ) → concept-lts.Need-enum-known-a (concept-call
 concept-enum-known-a t c = search needs
 
 concept-add-member-requires : (t : ℕ) → concept-lts.Need-add-member-requires (concept-calls t) (concept-at t) concept.Post
-concept-add-member-requires t c κs = (place-room (c .before .before .before .before .before .pre .1 .0) (concept-some (c .before .before .before .before .before .args .query .now) _ (c .before .before .before .before .before .pre .1 .1)), (omega (arith, concept-named (c .before .before .before .before .before .pre .1 .0) (c .before .before .before .before .before .pre .1 .1) (sym (c .before .before .before .token-at .ensures) ∙ c .before .a .given .1)), omega (arith, c .before .before .before .before .before .pre .1 .0 .node)))
+concept-add-member-requires t c κs =
+    let s = c .before .before .before .before .before in
+    let h = s .pre .1 .1 in
+    let q = sym (c .before .before .before .token-at .ensures) ∙ c .before .a .given .1 in
+    (place-room (s .pre .1 .0) (concept-some (s .args .query .now) _ h), (omega (arith, token-named (concept-place (s .pre .1 .0) h) q), omega (arith, s .pre .1 .0 .node)))
+
+concept-enum-told : (t : ℕ) → concept-lts.Need-enum-told (concept-calls t) (concept-at t) concept.Post
+concept-enum-told t c = search needs
 
 concept-enum-known-a-2 : (t : ℕ) → concept-lts.Need-enum-known-a-2 (concept-calls t) (concept-at t) concept.Post
 concept-enum-known-a-2 t c = search needs
 
 concept-add-add-equation : (t : ℕ) → concept-lts.Need-add-add-equation (concept-calls t) (concept-at t) concept.Post
-concept-add-add-equation t c = omega (arith, concept-named (c .before .before .before .before .before .pre .1 .0) (c .before .before .before .before .before .pre .1 .1) (sym (c .before .before .before .token-at .ensures) ∙ c .before .a2 .given .1), c .before .before .before .before .before .pre .1 .0 .constants)
+concept-add-add-equation t c =
+    let s = c .before .before .before .before .before in
+    let h = s .pre .1 .1 in
+    let q = sym (c .before .before .before .token-at .ensures) ∙ c .before .a2 .given .1 in
+    omega (arith, token-named (concept-place (s .pre .1 .0) h) q, s .pre .1 .0 .constants)
 
 concept-add-equation-requires : (t : ℕ) → concept-lts.Need-add-equation-requires (concept-calls t) (concept-at t) concept.Post
-concept-add-equation-requires t c κs = (place-room (c .before .before .before .before .before .pre .1 .0) (concept-some (c .before .before .before .before .before .args .query .now) _ (c .before .before .before .before .before .pre .1 .1)), (omega (arith, c .before .before .before .before .before .pre .1 .0 .node), omega (arith, concept-named (c .before .before .before .before .before .pre .1 .0) (c .before .before .before .before .before .pre .1 .1) (sym (c .before .before .before .token-at .ensures) ∙ c .before .a2 .given .1), c .before .before .before .before .before .pre .1 .0 .constants)))
-
-concept-enum-told : (t : ℕ) → concept-lts.Need-enum-told (concept-calls t) (concept-at t) concept.Post
-concept-enum-told t c = search needs
-
-concept-both-requires : (t : ℕ) → concept-lts.Need-both-requires (concept-calls t) (concept-at t) concept.Post
-concept-both-requires t c κs = (omega (arith, c .before .before .before .before .pre .0, concept-next (c .before .before .before .before .pre .1 .0) (c .before .before .before .before .pre .1 .1)), (place-earlier (c .before .before .before .before .pre .1 .0) (omega (arith, concept-next (c .before .before .before .before .pre .1 .0) (c .before .before .before .before .pre .1 .1))), (concept-token (c .before .before .before .before .pre .1 .0) (c .before .before .before .before .pre .1 .1) (sym (c .before .before .token-at .ensures) ∙ c .enum-told .given .1) .2, concept-token (c .before .before .before .before .pre .1 .0) (c .before .before .before .before .pre .1 .1) (sym (c .before .before .token-at .ensures) ∙ c .enum-told .given .1) .3)))
+concept-add-equation-requires t c κs =
+    let s = c .before .before .before .before .before in
+    let h = s .pre .1 .1 in
+    let q = sym (c .before .before .before .token-at .ensures) ∙ c .before .a2 .given .1 in
+    (place-room (s .pre .1 .0) (concept-some (s .args .query .now) _ h), (omega (arith, s .pre .1 .0 .node), omega (arith, token-named (concept-place (s .pre .1 .0) h) q, s .pre .1 .0 .constants)))
 
 concept-enum-told-2 : (t : ℕ) → concept-lts.Need-enum-told-2 (concept-calls t) (concept-at t) concept.Post
 concept-enum-told-2 t c = search needs
 
-concept-path-requires : (t : ℕ) → concept-lts.Need-path-requires (concept-calls t) (concept-at t) concept.Post
-concept-path-requires t c κs = (omega (arith, c .before .before .before .before .pre .0, concept-next (c .before .before .before .before .pre .1 .0) (c .before .before .before .before .pre .1 .1)), (place-earlier (c .before .before .before .before .pre .1 .0) (omega arith), concept-token (c .before .before .before .before .pre .1 .0) (c .before .before .before .before .pre .1 .1) (sym (c .before .before .token-at .ensures) ∙ c .enum-told2 .given .1) .2))
+concept-both-requires : (t : ℕ) → concept-lts.Need-both-requires (concept-calls t) (concept-at t) concept.Post
+concept-both-requires t c κs =
+    let s = c .before .before .before .before in
+    let h = s .pre .1 .1 in
+    let q = sym (c .before .before .token-at .ensures) ∙ c .enum-told2 .given .1 in
+    (omega (arith, s .pre .0, concept-next (s .args .query .now) _ h), (concept-place (s .pre .1 .0) h, (concept-suc (s .args .query .now) _ h, q)))
 
 concept-enum-told-3 : (t : ℕ) → concept-lts.Need-enum-told-3 (concept-calls t) (concept-at t) concept.Post
 concept-enum-told-3 t c = search needs
 
+concept-path-requires : (t : ℕ) → concept-lts.Need-path-requires (concept-calls t) (concept-at t) concept.Post
+concept-path-requires t c κs =
+    let s = c .before .before .before .before in
+    let h = s .pre .1 .1 in
+    let q = sym (c .before .before .token-at .ensures) ∙ c .enum-told3 .given .1 in
+    (omega (arith, s .pre .0, concept-next (s .args .query .now) _ h), (place-earlier (s .pre .1 .0) (omega arith), concept-token (s .args .query .now) _ h q .2))
+
+concept-enum-told-4 : (t : ℕ) → concept-lts.Need-enum-told-4 (concept-calls t) (concept-at t) concept.Post
+concept-enum-told-4 t c = search needs
+
 concept-common-requires : (t : ℕ) → concept-lts.Need-common-requires (concept-calls t) (concept-at t) concept.Post
-concept-common-requires t c κs = (omega (arith, c .before .before .before .before .pre .0, concept-next (c .before .before .before .before .pre .1 .0) (c .before .before .before .before .pre .1 .1)), (place-earlier (c .before .before .before .before .pre .1 .0) (omega (arith, concept-next (c .before .before .before .before .pre .1 .0) (c .before .before .before .before .pre .1 .1))), (concept-token (c .before .before .before .before .pre .1 .0) (c .before .before .before .before .pre .1 .1) (sym (c .before .before .token-at .ensures) ∙ c .enum-told3 .given .1) .2, concept-token (c .before .before .before .before .pre .1 .0) (c .before .before .before .before .pre .1 .1) (sym (c .before .before .token-at .ensures) ∙ c .enum-told3 .given .1) .3)))
+concept-common-requires t c κs =
+    let s = c .before .before .before .before in
+    let h = s .pre .1 .1 in
+    let q = sym (c .before .before .token-at .ensures) ∙ c .enum-told4 .given .1 in
+    (omega (arith, s .pre .0, concept-next (s .args .query .now) _ h), (concept-place (s .pre .1 .0) h, (concept-suc (s .args .query .now) _ h, q)))
 
 concept-returns : (t : ℕ) → concept-lts.Need-returns (concept-calls t) (concept-at t) concept.Post
-concept-returns t c = class-put (c .before .before .before .before .before .before .pre .1 .0) (c .before .before .before .before .before .before .pre .1 .1) (sym (c .before .before .before .before .token-at .ensures) ∙ c .before .before .a .given .1) (c .add-member .ensures)
+concept-returns t c =
+    let s = c .before .before .before .before .before .before in
+    let h = s .pre .1 .1 in
+    let q = sym (c .before .before .before .before .token-at .ensures) ∙ c .before .before .a .given .1 in
+    concept-put (s .pre .1 .0) h (class-grown (concept-place (s .pre .1 .0) h) (concept-token (s .args .query .now) _ h q) (c .add-member .ensures))
 
 concept-returns-2 : (t : ℕ) → concept-lts.Need-returns-2 (concept-calls t) (concept-at t) concept.Post
-concept-returns-2 t c = constant-put (c .before .before .before .before .before .before .pre .1 .0) (c .before .before .before .before .before .before .pre .1 .1) (sym (c .before .before .before .before .token-at .ensures) ∙ c .before .before .a2 .given .1) (c .add-equation .ensures)
+concept-returns-2 t c =
+    let s = c .before .before .before .before in
+    let h = s .pre .1 .1 in
+    let q = sym (c .before .before .token-at .ensures) ∙ c .enum-told .given .1 in
+    concept-put (s .pre .1 .0) h (everything-grown (concept-place (s .pre .1 .0) h) (concept-token (s .args .query .now) _ h q))
 
 concept-returns-3 : (t : ℕ) → concept-lts.Need-returns-3 (concept-calls t) (concept-at t) concept.Post
-concept-returns-3 t c = both-put (c .before .before .before .before .before .pre .1 .0) (c .before .before .before .before .before .pre .1 .1) (sym (c .before .before .before .token-at .ensures) ∙ c .before .enum-told .given .1) (c .both .ensures)
+concept-returns-3 t c =
+    let s = c .before .before .before .before .before .before in
+    let h = s .pre .1 .1 in
+    let q = sym (c .before .before .before .before .token-at .ensures) ∙ c .before .before .a2 .given .1 in
+    concept-put (s .pre .1 .0) h (constant-grown (concept-place (s .pre .1 .0) h) (concept-token (s .args .query .now) _ h q) (c .add-equation .ensures))
 
 concept-returns-4 : (t : ℕ) → concept-lts.Need-returns-4 (concept-calls t) (concept-at t) concept.Post
-concept-returns-4 t c = reached-put (c .before .before .before .before .before .pre .1 .0) (c .before .before .before .before .before .pre .1 .1) (sym (c .before .before .before .token-at .ensures) ∙ c .before .enum-told2 .given .1) (c .path .ensures)
+concept-returns-4 t c = concept-put (c .before .before .before .before .before .pre .1 .0) (c .before .before .before .before .before .pre .1 .1) (c .both .ensures)
 
 concept-returns-5 : (t : ℕ) → concept-lts.Need-returns-5 (concept-calls t) (concept-at t) concept.Post
-concept-returns-5 t c = common-put (c .before .before .before .before .before .pre .1 .0) (c .before .before .before .before .before .pre .1 .1) (sym (c .before .before .before .token-at .ensures) ∙ c .before .enum-told3 .given .1) (c .common .ensures)
+concept-returns-5 t c =
+    let s = c .before .before .before .before .before in
+    let h = s .pre .1 .1 in
+    let q = sym (c .before .before .before .token-at .ensures) ∙ c .before .enum-told3 .given .1 in
+    concept-put (s .pre .1 .0) h (reached-grown (concept-place (s .pre .1 .0) h) (concept-token (s .args .query .now) _ h q) (c .path .ensures))
 
 concept-returns-6 : (t : ℕ) → concept-lts.Need-returns-6 (concept-calls t) (concept-at t) concept.Post
-concept-returns-6 t c = everything-put (c .before .before .before .pre .1 .0) (c .before .before .before .pre .1 .1) (rw (← (c .before .token-at .ensures)) (c .match .keys6))
+concept-returns-6 t c = concept-put (c .before .before .before .before .before .pre .1 .0) (c .before .before .before .before .before .pre .1 .1) (c .common .ensures)
+
+concept-returns-7 : (t : ℕ) → concept-lts.Need-returns-7 (concept-calls t) (concept-at t) concept.Post
+concept-returns-7 t c = absurd (concept-not-path (c .before .before .before .args .query .now) _ (c .before .before .before .pre .1 .1) (rw (← (c .before .token-at .ensures)) (c .match .keys7)))
 
 path-sub-at : (t : ℕ) → path-lts.Need-sub-at (path-calls t) (path-at t) path.Post
 path-sub-at t c = path-some (c .before .args .query .now) _ (c .before .pre .1 .1)
@@ -193,47 +267,83 @@ path-sub-at t c = path-some (c .before .args .query .now) _ (c .before .pre .1 .
 path-token-at-requires : (t : ℕ) → path-lts.Need-token-at-requires (path-calls t) (path-at t) path.Post
 path-token-at-requires t c κs = omega (arith, place-small (c .before .pre .1 .0))
 
+path-enum-told : (t : ℕ) → path-lts.Need-enum-told (path-calls t) (path-at t) path.Post
+path-enum-told t c = search needs
+
 path-enum-known-p : (t : ℕ) → path-lts.Need-enum-known-p (path-calls t) (path-at t) path.Post
 path-enum-known-p t c = search needs
 
 path-step-requires : (t : ℕ) → path-lts.Need-step-requires (path-calls t) (path-at t) path.Post
-path-step-requires t c κs = (omega (arith, c .before .before .before .before .before .pre .0, path-next (c .before .before .before .before .before .pre .1 .0) (c .before .before .before .before .before .pre .1 .1)), (place-earlier (c .before .before .before .before .before .pre .1 .0) (omega (arith, path-next (c .before .before .before .before .before .pre .1 .0) (c .before .before .before .before .before .pre .1 .1))), (step-token (c .before .before .before .before .before .pre .1 .0) (c .before .before .before .before .before .pre .1 .1) false _ (sym (c .before .before .before .token-at .ensures) ∙ c .before .p .given .1) .2, (step-token (c .before .before .before .before .before .pre .1 .0) (c .before .before .before .before .before .pre .1 .1) false _ (sym (c .before .before .before .token-at .ensures) ∙ c .before .p .given .1) .3, omega (arith, step-named (c .before .before .before .before .before .pre .1 .0) (c .before .before .before .before .before .pre .1 .1) false _ (sym (c .before .before .before .token-at .ensures) ∙ c .before .p .given .1))))))
+path-step-requires t c κs =
+    let s = c .before .before .before .before .before in
+    let h = s .pre .1 .1 in
+    let q = sym (c .before .before .before .token-at .ensures) ∙ c .before .p .given .1 in
+    (omega (arith, s .pre .0, path-next (s .args .query .now) _ h), (path-place (s .pre .1 .0) h, (path-suc (s .args .query .now) _ h, q)))
 
 path-enum-known-p-2 : (t : ℕ) → path-lts.Need-enum-known-p-2 (path-calls t) (path-at t) path.Post
 path-enum-known-p-2 t c = search needs
 
 path-step-requires-2 : (t : ℕ) → path-lts.Need-step-requires-2 (path-calls t) (path-at t) path.Post
-path-step-requires-2 t c κs = (omega (arith, c .before .before .before .before .before .pre .0, path-next (c .before .before .before .before .before .pre .1 .0) (c .before .before .before .before .before .pre .1 .1)), (place-earlier (c .before .before .before .before .before .pre .1 .0) (omega (arith, path-next (c .before .before .before .before .before .pre .1 .0) (c .before .before .before .before .before .pre .1 .1))), (step-token (c .before .before .before .before .before .pre .1 .0) (c .before .before .before .before .before .pre .1 .1) true _ (sym (c .before .before .before .token-at .ensures) ∙ c .before .p2 .given .1) .2, (step-token (c .before .before .before .before .before .pre .1 .0) (c .before .before .before .before .before .pre .1 .1) true _ (sym (c .before .before .before .token-at .ensures) ∙ c .before .p2 .given .1) .3, omega (arith, step-named (c .before .before .before .before .before .pre .1 .0) (c .before .before .before .before .before .pre .1 .1) true _ (sym (c .before .before .before .token-at .ensures) ∙ c .before .p2 .given .1))))))
+path-step-requires-2 t c κs =
+    let s = c .before .before .before .before .before in
+    let h = s .pre .1 .1 in
+    let q = sym (c .before .before .before .token-at .ensures) ∙ c .before .p2 .given .1 in
+    (omega (arith, s .pre .0, path-next (s .args .query .now) _ h), (path-place (s .pre .1 .0) h, (path-suc (s .args .query .now) _ h, q)))
 
 path-returns : (t : ℕ) → path-lts.Need-returns (path-calls t) (path-at t) path.Post
-path-returns t c = step-put (c .before .before .before .before .before .before .pre .1 .0) (c .before .before .before .before .before .before .pre .1 .1) false _ (sym (c .before .before .before .before .token-at .ensures) ∙ c .before .before .p .given .1) (c .step .ensures)
+path-returns t c =
+    let s = c .before .before .before .before in
+    let h = s .pre .1 .1 in
+    let q = sym (c .before .before .token-at .ensures) ∙ c .enum-told .given .1 in
+    path-put (s .pre .1 .0) h (empty-grown (path-place (s .pre .1 .0) h) (path-token (s .args .query .now) _ h q))
 
 path-returns-2 : (t : ℕ) → path-lts.Need-returns-2 (path-calls t) (path-at t) path.Post
-path-returns-2 t c = step-put (c .before .before .before .before .before .before .pre .1 .0) (c .before .before .before .before .before .before .pre .1 .1) true _ (sym (c .before .before .before .before .token-at .ensures) ∙ c .before .before .p2 .given .1) (c .step2 .ensures)
+path-returns-2 t c = path-put (c .before .before .before .before .before .before .pre .1 .0) (c .before .before .before .before .before .before .pre .1 .1) (c .step .ensures)
 
 path-returns-3 : (t : ℕ) → path-lts.Need-returns-3 (path-calls t) (path-at t) path.Post
-path-returns-3 t c = empty-put (c .before .before .before .pre .1 .0) (c .before .before .before .pre .1 .1) (rw (← (c .before .token-at .ensures)) (c .match .keys3))
+path-returns-3 t c = path-put (c .before .before .before .before .before .before .pre .1 .0) (c .before .before .before .before .before .before .pre .1 .1) (c .step2 .ensures)
+
+path-returns-4 : (t : ℕ) → path-lts.Need-returns-4 (path-calls t) (path-at t) path.Post
+path-returns-4 t c = absurd (path-not-concept (c .before .before .before .args .query .now) _ (c .before .before .before .pre .1 .1) (rw (← (c .before .token-at .ensures)) (c .match .keys4)))
 
 step-step-number-requires : (t : ℕ) → step-lts.Need-step-number-requires (step-calls t) (step-at t) step.Post
 step-step-number-requires t c κs = omega (arith, place-small (c .before .pre .1 .0))
 
 step-concept-requires : (t : ℕ) → step-lts.Need-concept-requires (step-calls t) (step-at t) step.Post
-step-concept-requires t c κs = (omega (arith, c .before .before .pre .0), (place-node (place-earlier (c .before .before .pre .1 .0) (omega arith)) (rw (c .step-number .ensures) (place-number (place-earlier (c .before .before .pre .1 .0) {d = c .before .before .args .end} (omega arith)))), c .before .before .pre .1 .1 .0))
+step-concept-requires t c κs =
+    let s = c .before .before in
+    let r = step-reads (s .args .query .now) (s .args .at) (directionOf (s .args .backward)) (s .args .attribute) (s .pre .1 .1 .0) (s .pre .1 .1 .1) in
+    let z = place-earlier (s .pre .1 .0) {d = s .args .at} (omega arith) in
+    (omega (arith, s .pre .0), (place-node z (rw (c .step-number .ensures) (place-number z)), r .2))
 
 step-start-of-requires : (t : ℕ) → step-lts.Need-start-of-requires (step-calls t) (step-at t) step.Post
 step-start-of-requires t c κs = omega (arith, place-small (c .before .before .before .pre .1 .0))
 
 step-end-of-requires : (t : ℕ) → step-lts.Need-end-of-requires (step-calls t) (step-at t) step.Post
-step-end-of-requires t c κs = (place-small (place-below (c .before .before .before .before .pre .1 .0) (c .start-of .ensures) (c .before .concept .ensures)), rw (c .start-of .ensures) (c .before .before .before .before .pre .1 .1 .1 .0))
+step-end-of-requires t c κs =
+    let s = c .before .before .before .before in
+    let r = step-reads (s .args .query .now) (s .args .at) (directionOf (s .args .backward)) (s .args .attribute) (s .pre .1 .1 .0) (s .pre .1 .1 .1) in
+    (place-small (place-below (s .pre .1 .0) (c .start-of .ensures) (c .before .concept .ensures)), rw (c .start-of .ensures) (r .3))
 
 step-add-edge-requires : (t : ℕ) → step-lts.Need-add-edge-requires (step-calls t) (step-at t) step.Post
-step-add-edge-requires t c κs = (place-room (place-between (c .before .before .before .before .before .pre .1 .0) (c .before .start-of .ensures) (c .before .before .concept .ensures)) (omega arith), (c .before .before .before .before .before .pre .1 .1 .1 .1, left-small (c .before .before .before .before .before .pre .1 .0) (c .before .start-of .ensures) (c .before .before .before .before .before .pre .1 .1 .1 .0) (c .end-of .ensures), omega (arith, c .before .before .before .step-number .ensures, place-number (place-earlier (c .before .before .before .before .before .pre .1 .0) {d = c .before .before .before .before .before .args .end} (omega arith)))))
+step-add-edge-requires t c κs =
+    let s = c .before .before .before .before .before in
+    let r = step-reads (s .args .query .now) (s .args .at) (directionOf (s .args .backward)) (s .args .attribute) (s .pre .1 .1 .0) (s .pre .1 .1 .1) in
+    (place-room (place-between (s .pre .1 .0) (c .before .start-of .ensures) (c .before .before .concept .ensures)) (omega arith), (step-named (s .pre .1 .0) (s .args .backward) (s .pre .1 .1 .1), left-small (s .pre .1 .0) (c .before .start-of .ensures) (r .3) (c .end-of .ensures), omega (arith, c .before .before .before .step-number .ensures, place-number (place-earlier (s .pre .1 .0) {d = s .args .at} (omega arith)))))
 
 step-path-requires : (t : ℕ) → step-lts.Need-path-requires (step-calls t) (step-at t) step.Post
-step-path-requires t c κs = (omega (arith, c .before .before .before .before .before .before .pre .0, c .before .before .start-of .ensures, start-le (c .before .before .before .before .before .before .args .query .now) (c .before .before .before .before .before .before .args .end) 1), (place-after (c .before .before .before .before .before .before .pre .1 .0) (c .before .before .start-of .ensures) (c .before .before .before .concept .ensures) (c .add-edge .ensures), rw (c .before .before .start-of .ensures) (c .before .before .before .before .before .before .pre .1 .1 .1 .0)))
+step-path-requires t c κs =
+    let s = c .before .before .before .before .before .before in
+    let r = step-reads (s .args .query .now) (s .args .at) (directionOf (s .args .backward)) (s .args .attribute) (s .pre .1 .1 .0) (s .pre .1 .1 .1) in
+    (omega (arith, s .pre .0, c .before .before .start-of .ensures, start-le (s .args .query .now) (s .args .at) 1), (place-after (s .pre .1 .0) (c .before .before .start-of .ensures) (c .before .before .before .concept .ensures) (c .add-edge .ensures), rw (c .before .before .start-of .ensures) (r .3)))
 
 step-returns : (t : ℕ) → step-lts.Need-returns (step-calls t) (step-at t) step.Post
-step-returns t c = step-grown (c .before .before .before .before .before .before .before .pre .1 .0) (c .before .before .before .start-of .ensures) (c .before .before .before .before .before .before .before .args .attribute) (c .before .before .before .before .before .before .before .args .backward) (c .before .before .before .before .before .step-number .ensures) (c .before .before .end-of .ensures) (c .before .before .before .before .concept .ensures) (c .before .add-edge .ensures) (c .path .ensures)
+step-returns t c =
+    let s = c .before .before .before .before .before .before .before in
+    let r = step-reads (s .args .query .now) (s .args .at) (directionOf (s .args .backward)) (s .args .attribute) (s .pre .1 .1 .0) (s .pre .1 .1 .1) in
+    step-grown (s .pre .1 .0) (c .before .before .before .start-of .ensures) (s .args .attribute) (s .args .backward) r
+    (c .before .before .before .before .before .step-number .ensures) (c .before .before .end-of .ensures) (c .before .before .before .before .concept .ensures)
+    (c .before .add-edge .ensures) (c .path .ensures)
 
 pub +both+common+concept+path+step-spec : {M : Type 1} → statement M
 +both+common+concept+path+step-spec =
@@ -261,34 +371,38 @@ pub +both+common+concept+path+step-spec : {M : Type 1} → statement M
     (concept-token-at-requires t)
     (concept-enum-known-a t)
     (concept-add-member-requires t)
+    (concept-enum-told t)
     (concept-enum-known-a-2 t)
     (concept-add-add-equation t)
     (concept-add-equation-requires t)
-    (concept-enum-told t)
-    (concept-both-requires t)
     (concept-enum-told-2 t)
-    (concept-path-requires t)
+    (concept-both-requires t)
     (concept-enum-told-3 t)
+    (concept-path-requires t)
+    (concept-enum-told-4 t)
     (concept-common-requires t)
     (concept-returns t)
     (concept-returns-2 t)
     (concept-returns-3 t)
     (concept-returns-4 t)
     (concept-returns-5 t)
-    (concept-returns-6 t))
+    (concept-returns-6 t)
+    (concept-returns-7 t))
     (λ t. path-lts.spec
-    (token-at-reads.Asked, token-at-reads.Learnt, step-below t, step.Post)
+    (path-calls t)
     (path-at t)
     path.Post
     (path-sub-at t)
     (path-token-at-requires t)
+    (path-enum-told t)
     (path-enum-known-p t)
     (path-step-requires t)
     (path-enum-known-p-2 t)
     (path-step-requires-2 t)
     (path-returns t)
     (path-returns-2 t)
-    (path-returns-3 t))
+    (path-returns-3 t)
+    (path-returns-4 t))
     λ t. step-lts.spec (step-calls t)
     (step-at t)
     step.Post

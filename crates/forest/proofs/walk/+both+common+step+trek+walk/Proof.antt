@@ -8,8 +8,9 @@ use borrow.Author.Needs.{needs}
 use borrow.Fn.Kinds.{In}
 use borrow.Fn.PlainCycle.{Measures, is, falls, and}
 use Rattle.records.proofs.concept.token_at.Reads as token-at-reads
-use Rattle.chase.proofs.PileLaws.{start-le}
-use Rattle.tokens.proofs.start_of.Reads as start-of-reads
+use Rattle.records.proofs.PileLaws.{start-le}
+use Rattle.records.proofs.reading.start_of.Reads as start-of-reads
+use Rattle.records.proofs.ReadingLaws.{concept-not-path, path-not-concept}
 use Rattle.forest.proofs.WalkLaws.{both-first, both-last, both-walked, reached-path, reached-walked, common-first, common-last, common-walked, step-path, step-make, step-next, step-walk, step-trekked, walk-after, walk-short, walk-from, walk-to, walk-leaf, trek-after, trek-short, trek-from, trek-to, trek-leaf}
 use Rattle.forest.proofs.walk.both.Reads as both
 use Rattle.forest.proofs.walk.both.Kinds as both-kinds
@@ -139,6 +140,9 @@ trek-sub-at t c = omega (arith, trek-after (c .before .before .before .pre .1))
 trek-token-at-requires : (t : ℕ) → trek-lts.Need-token-at-requires (trek-calls t) (trek-at t) trek.Post
 trek-token-at-requires t c κs = omega (arith, trek-short (c .before .before .before .pre .1))
 
+trek-enum-told : (t : ℕ) → trek-lts.Need-enum-told (trek-calls t) (trek-at t) trek.Post
+trek-enum-told t c = search needs
+
 trek-enum-known-p : (t : ℕ) → trek-lts.Need-enum-known-p (trek-calls t) (trek-at t) trek.Post
 trek-enum-known-p t c = search needs
 
@@ -152,13 +156,16 @@ trek-step-requires-2 : (t : ℕ) → trek-lts.Need-step-requires-2 (trek-calls t
 trek-step-requires-2 t c κs = (omega (arith, c .before .before .before .before .before .before .before .before .pre .0, trek-after (c .before .before .before .before .before .before .before .before .pre .1)), (trek-from (c .before .before .before .before .before .before .before .before .pre .1), sym (c .before .before .before .before .token-at .ensures) ∙ c .before .before .p2 .given .1))
 
 trek-returns : (t : ℕ) → trek-lts.Need-returns (trek-calls t) (trek-at t) trek.Post
-trek-returns t c = trek-to (c .before .before .before .before .before .before .before .before .before .pre .1) (c .step .ensures)
+trek-returns t c = trek-leaf (c .before .before .before .before .before .before .pre .1) (sym (c .before .before .token-at .ensures) ∙ c .enum-told .given .1)
 
 trek-returns-2 : (t : ℕ) → trek-lts.Need-returns-2 (trek-calls t) (trek-at t) trek.Post
-trek-returns-2 t c = trek-to (c .before .before .before .before .before .before .before .before .before .pre .1) (c .step2 .ensures)
+trek-returns-2 t c = trek-to (c .before .before .before .before .before .before .before .before .before .pre .1) (c .step .ensures)
 
 trek-returns-3 : (t : ℕ) → trek-lts.Need-returns-3 (trek-calls t) (trek-at t) trek.Post
-trek-returns-3 t c = trek-leaf (c .before .before .before .before .before .pre .1) (rw (← (c .before .token-at .ensures)) (c .match .keys3))
+trek-returns-3 t c = trek-to (c .before .before .before .before .before .before .before .before .before .pre .1) (c .step2 .ensures)
+
+trek-returns-4 : (t : ℕ) → trek-lts.Need-returns-4 (trek-calls t) (trek-at t) trek.Post
+trek-returns-4 t c = absurd (path-not-concept (c .before .before .before .before .before .args .view .now) _ (c .before .before .before .before .before .pre .1 .item) (rw (← (c .before .token-at .ensures)) (c .match .keys4)))
 
 walk-sub-at : (t : ℕ) → walk-lts.Need-sub-at (walk-calls t) (walk-at t) walk.Post
 walk-sub-at t c = omega (arith, walk-after (c .before .before .before .pre .1))
@@ -185,16 +192,19 @@ walk-common-requires : (t : ℕ) → walk-lts.Need-common-requires (walk-calls t
 walk-common-requires t c κs = (omega (arith, c .before .before .before .before .before .before .before .pre .0, walk-after (c .before .before .before .before .before .before .before .pre .1)), (walk-from (c .before .before .before .before .before .before .before .pre .1), (sym (c .before .before .before .token-at .ensures) ∙ c .before .enum-told3 .given .1)))
 
 walk-returns : (t : ℕ) → walk-lts.Need-returns (walk-calls t) (walk-at t) walk.Post
-walk-returns t c = walk-to (c .before .before .before .before .before .before .before .before .pre .1) (c .both .ensures)
+walk-returns t c = walk-leaf (c .before .before .before .before .before .pre .1) (rw (← (c .before .token-at .ensures)) (c .match .keys1))
 
 walk-returns-2 : (t : ℕ) → walk-lts.Need-returns-2 (walk-calls t) (walk-at t) walk.Post
-walk-returns-2 t c = walk-to (c .before .before .before .before .before .before .before .before .pre .1) (reached-walked (walk-from (c .before .before .before .before .before .before .before .before .pre .1)) (sym (c .before .before .before .before .token-at .ensures) ∙ c .before .before .enum-told2 .given .1) (c .trek .ensures))
+walk-returns-2 t c = walk-to (c .before .before .before .before .before .before .before .before .pre .1) (c .both .ensures)
 
 walk-returns-3 : (t : ℕ) → walk-lts.Need-returns-3 (walk-calls t) (walk-at t) walk.Post
-walk-returns-3 t c = walk-to (c .before .before .before .before .before .before .before .before .pre .1) (c .common .ensures)
+walk-returns-3 t c = walk-to (c .before .before .before .before .before .before .before .before .pre .1) (reached-walked (walk-from (c .before .before .before .before .before .before .before .before .pre .1)) (sym (c .before .before .before .before .token-at .ensures) ∙ c .before .before .enum-told2 .given .1) (c .trek .ensures))
 
 walk-returns-4 : (t : ℕ) → walk-lts.Need-returns-4 (walk-calls t) (walk-at t) walk.Post
-walk-returns-4 t c = walk-leaf (c .before .before .before .before .before .pre .1) (rw (← (c .before .token-at .ensures)) (c .match .keys4))
+walk-returns-4 t c = walk-to (c .before .before .before .before .before .before .before .before .pre .1) (c .common .ensures)
+
+walk-returns-5 : (t : ℕ) → walk-lts.Need-returns-5 (walk-calls t) (walk-at t) walk.Post
+walk-returns-5 t c = absurd (concept-not-path (c .before .before .before .before .before .args .view .now) _ (c .before .before .before .before .before .pre .1 .item) (rw (← (c .before .token-at .ensures)) (c .match .keys5)))
 
 pub +both+common+step+trek+walk-spec : {M : Type 1} → statement M
 +both+common+step+trek+walk-spec = close μ-both μ-common μ-step μ-trek μ-walk (λ t. both-lts.spec (both-calls t)
@@ -222,18 +232,20 @@ pub +both+common+step+trek+walk-spec : {M : Type 1} → statement M
     (step-walk-requires t)
     (step-returns t))
     (λ t. trek-lts.spec
-    (token-at-reads.Asked, token-at-reads.Learnt, step-below t, step.Post)
+    (trek-calls t)
     (trek-at t)
     trek.Post
     (trek-sub-at t)
     (trek-token-at-requires t)
+    (trek-enum-told t)
     (trek-enum-known-p t)
     (trek-step-requires t)
     (trek-enum-known-p-2 t)
     (trek-step-requires-2 t)
     (trek-returns t)
     (trek-returns-2 t)
-    (trek-returns-3 t))
+    (trek-returns-3 t)
+    (trek-returns-4 t))
     λ t. walk-lts.spec (walk-calls t)
     (walk-at t)
     walk.Post
@@ -249,3 +261,4 @@ pub +both+common+step+trek+walk-spec : {M : Type 1} → statement M
     (walk-returns-2 t)
     (walk-returns-3 t)
     (walk-returns-4 t)
+    (walk-returns-5 t)

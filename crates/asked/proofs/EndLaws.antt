@@ -1,36 +1,17 @@
 -- The end of a path by its last token: a step's number, or where the empty path starts.
-use Prim.Native.Nat.{ℕ, suc, _-_, _<_}
-use native.Mathlib.Omega.{arith}
+use Prim.Native.Nat.{ℕ, suc, _-_}
 use mathlib.Core.Bool.{So, false, true≢false, false≢true}
 use mathlib.Core.List.{List}
-use mathlib.Core.Path.{_≡_, refl, sym, ap, subst, _∙_}
+use mathlib.Core.Path.{_≡_, refl, ap, subst, _∙_}
 use Rattle.records.specs.declared.concept.Token.{Token}
 use Rattle.records.specs.declared.concept.Token.the-variants.{Class, Everything, Constant, Both, Empty, Forward, Backward, Reached, Common}
 use Rattle.records.specs.Concept.{forward, backward}
-use Rattle.records.specs.ConceptRecord.{tokenAt, pileAfter}
-use Rattle.records.specs.Pile as pile
+use Rattle.records.specs.ConceptRecord.{tokenAt}
 use Rattle.records.specs.Refusal.{isStep, stepAt}
-use Rattle.chase.specs.Tokens.{HasConcept, HasPath, stepNumber, endAt}
-use Rattle.records.proofs.PileLaws.{concept-later, path-later}
-use Rattle.chase.proofs.TokenLaws.{ReadsPath, path-reads}
-use Rattle.chase.proofs.ReadingLaws.{facts-empty, facts-step}
-
-module _ (w : List ℕ) (e : ℕ) where
-  -- the item stands on the pile
-  pub concept-pile : HasConcept w e → pile.HasConcept (pileAfter w e)
-  unfolding HasConcept
-  concept-pile h = subst pile.HasConcept (sym (h .1)) tt
-
-  pub path-pile : HasPath w e → pile.HasPath (pileAfter w e)
-  unfolding HasPath
-  path-pile h = subst pile.HasPath (sym (h .1)) tt
-
-  -- it ends after a token at least
-  pub concept-some : HasConcept w e → 0 < e
-  concept-some h = concept-later w e (concept-pile h)
-
-  pub path-some : HasPath w e → 0 < e
-  path-some h = path-later w e (path-pile h)
+use Rattle.records.specs.Reading.{HasPath, stepNumber}
+use Rattle.chase.specs.QueryTokens.{endAt}
+use Rattle.records.proofs.ReadingLaws.{ReadsPath, path-reads, path-next}
+use Rattle.chase.proofs.QueryTokenLaws.{facts-empty, facts-step}
 
 module _ (w : List ℕ) where
   module _ (e n : ℕ) where
@@ -57,14 +38,11 @@ module _ (w : List ℕ) where
     empty-ends Common r h = absurd r
 
   module _ (e n : ℕ) (h : HasPath w e) where
-    last : e ≡ suc (e - 1)
-    last = omega (arith, path-some w e h)
-
     reads : ReadsPath w (e - 1) (tokenAt w (e - 1))
-    reads = path-reads w (e - 1) (tokenAt w (e - 1)) (subst (HasPath w) last h) refl
+    reads = path-reads w (e - 1) (tokenAt w (e - 1)) (subst (HasPath w) (path-next w e h) h) refl
 
     pub end-step : So (stepAt w (e - 1)) → endAt w e n ≡ stepNumber w (e - 1)
-    end-step s = ap (λ (i : ℕ). endAt w i n) last ∙ step-ends (e - 1) n (tokenAt w (e - 1)) reads s
+    end-step s = ap (λ (i : ℕ). endAt w i n) (path-next w e h) ∙ step-ends (e - 1) n (tokenAt w (e - 1)) reads s
 
     pub end-empty : stepAt w (e - 1) ≡ false → endAt w e n ≡ n
-    end-empty s = ap (λ (i : ℕ). endAt w i n) last ∙ empty-ends (e - 1) n (tokenAt w (e - 1)) reads s
+    end-empty s = ap (λ (i : ℕ). endAt w i n) (path-next w e h) ∙ empty-ends (e - 1) n (tokenAt w (e - 1)) reads s

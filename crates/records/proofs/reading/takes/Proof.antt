@@ -1,8 +1,8 @@
 -- A case for each sort of token.
-use Rattle.chase.specs.Tokens.{takes}
+use Rattle.records.specs.Reading.{takes}
 use borrow.Author.Needs.{needs}
-use Rattle.tokens.proofs.takes.Statement.{statement}
-use Rattle.tokens.proofs.takes.Tie as tie
+use Rattle.records.proofs.reading.takes.Statement.{statement}
+use Rattle.records.proofs.reading.takes.Tie as tie
 
 enum-told : tie.Need-enum-told
 enum-told c = search needs

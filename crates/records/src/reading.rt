@@ -1,11 +1,10 @@
-// A concept's tokens, read from the right: where an item starts, the number of a step, and the node at the end of a path.
-// The decider walks the query and the view by these (crate chase: Tokens).
-use records::concept::Token;
-use records::concept::is_step;
-use records::concept::token_at;
+// A concept's tokens, read from the right: where an item starts, and the number of a step.
+use crate::concept::Token;
+use crate::concept::is_step;
+use crate::concept::token_at;
 ghost use mathlib.Core.Path.{_≡_};
 ghost use Prim.Native.Nat.{_<_, _^_};
-ghost use Rattle.chase.specs.Tokens.{takes as takesOf, startOf, stepNumber, endAt, HasPath};
+ghost use Rattle.records.specs.Reading.{takes as takesOf, startOf, stepNumber};
 
 // How many items a token takes from the pile.
 fn takes(token: Token) -> usize
@@ -48,17 +47,4 @@ pub fn step_number(words: &[u16], end: usize) -> usize
         number += is_step(token_at(words, i)) as usize;
     }
     number
-}
-
-// The node at the end of the path that ends at `end` and starts at `node`.
-pub fn end_of(words: &[u16], end: usize, node: usize) -> usize
-    requires { ⌜ end < 2 ^ 16 ⌝ }
-    requires { ⌜ HasPath (now words) end ⌝ }
-    ensures { λ r. ⌜ r ≡ endAt (now (words .entry)) end node ⌝ }
-{
-    let at = end - 1;
-    if is_step(token_at(words, at)) {
-        return step_number(words, at);
-    }
-    node
 }

@@ -4,12 +4,12 @@ use borrow.Author.Needs.{needs}
 use native.Mathlib.Omega.{arith}
 use native.Mathlib.Nat.{le-antisymm}
 use mathlib.Core.Path.{_≡_, ap, _∙_}
 use Rattle.records.specs.Refusal.{isStep}
 use Rattle.records.proofs.ConceptScanLaws.{byte-small}
-use Rattle.chase.specs.Tokens.{stepNumber}
-use Rattle.tokens.proofs.ScanLaws.{number-none, number-few, number-more}
-use Rattle.tokens.proofs.step_number.Statement.{statement}
-use Rattle.tokens.proofs.step_number.Tie as tie
+use Rattle.records.specs.Reading.{stepNumber}
+use Rattle.records.proofs.ReadingScanLaws.{number-none, number-few, number-more}
+use Rattle.records.proofs.reading.step_number.Statement.{statement}
+use Rattle.records.proofs.reading.step_number.Tie as tie
 
 abbrev Inv-loop : tie.InvT-loop
 Inv-loop words end number₀ i₀ number i = (i ≤ end) × (number ≡ stepNumber words i)

@@ -7,14 +7,14 @@ use mathlib.Core.Path.{_≡_, refl, sym, ap, ap₂, _∙_}
 use lib.Dec.{ltb}
 use mir.Val.{boolByte}
 use borrow.Author.Tests.{ltb-true, lt-ltb}
 use Rattle.records.specs.declared.concept.Token.{Token}
 use Rattle.records.specs.declared.concept.Token.the-variants.{Class, Everything, Constant, Both, Empty, Forward, Backward, Reached, Common}
 use Rattle.records.specs.ConceptRecord.{tokenAt}
 use Rattle.records.specs.Finite.{count}
 use Rattle.records.specs.Refusal.{stepAt}
 use Rattle.records.proofs.BoolLaws.{and-map, and-both, not-both}
 use Rattle.records.proofs.FiniteLaws.{count-turn, count-le}
-use Rattle.chase.specs.Tokens.{takes, startOf, stepNumber}
+use Rattle.records.specs.Reading.{takes, startOf, stepNumber}
 
 pub takes-few : (t : Token) → takes t ≤ 2
 unfolding takes

@@ -1,18 +1,16 @@
--- What the code meets token by token, from what a token says (Reads): the facts that the query's tokens ask, in the order in
--- which they are appended, and the walk of the view.
+-- What the query's tokens ask, token by token, from what a token says (Reads): an item's facts are those of its operands, the
+-- last first, with the fact of its own token between them.
 use Prim.Native.Nat.{ℕ, suc, _+_}
 use native.Mathlib.Omega.{arith}
 use mathlib.Core.List.{List}
 use mathlib.Core.Path.{_≡_, sym, ap, ap₂, _∙_}
 use Rattle.records.specs.declared.concept.Token.the-variants.{Class, Everything, Constant, Both, Empty, Reached, Common}
-use Rattle.records.specs.Schema.{Schema}
 use Rattle.records.specs.Concept.{Direction, Concept, class, everything, constant, both, reached, common, Path}
-use Rattle.chase.specs.Steps.{conceptSteps, pathSteps}
+use Rattle.records.specs.Reading.{startOf, conceptAt, pathAt, stepNumber}
+use Rattle.records.proofs.ReadingLaws.{Reads, ReadsStep, ReadsPath, number-concept, number-path}
+use Rattle.records.specs.Steps.{conceptSteps, pathSteps}
 use Rattle.chase.specs.Facts.{none, member, equal, related, _⊕_, endNode, conceptFacts, pathFacts}
-use Rattle.chase.specs.Ground.{Ground}
-use Rattle.chase.specs.Forest.{Forest, walk, trek}
-use Rattle.chase.specs.Tokens.{startOf, conceptAt, pathAt, stepNumber, factsAt, pathFactsAt, endAt}
-use Rattle.chase.proofs.TokenLaws.{Reads, ReadsStep, ReadsPath, number-concept, number-path}
+use Rattle.chase.specs.QueryTokens.{factsAt, pathFactsAt, endAt}
 
 module _ (first : ℕ) (w : List ℕ) (e n : ℕ) where
   -- the facts are those of the concept that is read
@@ -68,19 +66,3 @@ module _ (first : ℕ) (w : List ℕ) (e n : ℕ) where
             ∙ ap₂ (λ (i j : ℕ). conceptFacts first (conceptAt w e) j i ⊕ related r P (endAt w m n) j ⊕ pathFactsAt first w m n) a b,
         ap₂ (λ (p : Path) (i : ℕ). endNode p n (stepNumber w i)) (h .0) (h .1) ∙ b,
       )
-
--- The walk of the concept, and of the path, that ends at e.
-module _ (S : Schema) (G : Ground) (w : List ℕ) where
-  abbrev pub walkAt : ℕ → ℕ → List ℕ → Forest → Forest
-  walkAt e = walk S G (conceptAt w e)
-
-  abbrev pub trekAt : ℕ → ℕ → List ℕ → Forest → Forest × List ℕ
-  trekAt e = trek S G (pathAt w e)
-
-  -- It goes by what the token says: of `both C D`, say, it computes to the walk of C and then of D.
-  module _ (e s : ℕ) (l : List ℕ) (T : Forest) where
-    pub walk-of : (C : Concept) → conceptAt w e ≡ C → walkAt e s l T ≡ walk S G C s l T
-    walk-of C q = ap (λ (D : Concept). walk S G D s l T) q
-
-    pub trek-of : (p : Path) → pathAt w e ≡ p → trekAt e s l T ≡ trek S G p s l T
-    trek-of p q = ap (λ (r : Path). trek S G r s l T) q

@@ -1,24 +1,30 @@
 -- Reading a concept's tokens from the right is recursion on the concept: for each token, what its operands are, where they
 -- end, and where they start (concept-reads, path-reads).
-use Prim.Native.Nat.{ℕ, zero, suc, _+_, _<_}
+use Prim.Native.Nat.{ℕ, zero, suc, _+_, _-_, _<_}
 use native.Mathlib.Omega.{arith}
 use mathlib.Core.Bool.{So, false≢true}
 use mathlib.Core.List.{List, [], _∷_}
 use mathlib.Core.Option.{none, some}
 use mathlib.Core.Path.{_≡_, refl, sym, ap, ap₂, subst, _∙_}
+use types.Run.{OneOf, miss}
+use denote.Enum.Declared.{tagOf}
+use Rattle.records.proofs.concept.Token.{the-type}
 use Rattle.records.specs.declared.concept.Token.{Token}
 use Rattle.records.specs.declared.concept.Token.the-variants.{Class, Everything, Constant, Both, Empty, Forward, Backward, Reached, Common}
 use Rattle.records.specs.Concept.{Direction, forward, backward, Concept, class, everything, constant, both, reached, common, Path, empty, step}
-use Rattle.records.specs.declared.schema.Signature.{Signature}
-use Rattle.records.specs.Layout.{conceptLayout, rightAt}
 use Rattle.records.specs.ConceptRecord.{concept, path, Pile, tokenAt, pileAfter, topConcept}
-use Rattle.records.specs.Pile.{topPath}
-use Rattle.records.specs.Refusal.{isConcept, suits}
-use Rattle.chase.specs.Steps.{conceptSteps, pathSteps}
-use Rattle.chase.specs.Declared.{Declared}
-use Rattle.chase.specs.Tokens.{startOf, conceptAt, pathAt, HasConcept, HasPath, stepNumber}
-use Rattle.chase.proofs.PileLaws.{lastToken, Ends, ends-token, ends-none, ends-one, ends-two, pile-empty, start-pile}
-use Rattle.chase.proofs.SpellingLaws.{ends-spells, path-spells, concept-number, path-number, concept-declared}
+use Rattle.records.specs.Refusal.{isConcept}
+use Rattle.records.specs.Steps.{conceptSteps, pathSteps}
+use Rattle.records.specs.Reading.{topPath, startOf, conceptAt, pathAt, HasConcept, HasPath, stepToken, stepNumber}
+use Rattle.records.proofs.PileLaws.{lastToken, Ends, at-suc, ends-token, ends-none, ends-one, ends-two, pile-empty, start-pile}
+use Rattle.records.proofs.SpellingLaws.{Spells, ends-spells, path-spells, concept-number, path-number}
+
+-- the tokens that end a concept, and those that end a path, by their places in the enum
+abbrev pub concept-tags : List ℕ
+concept-tags = 0 ∷ 1 ∷ 2 ∷ 3 ∷ 7 ∷ 8 ∷ []
+
+abbrev pub path-tags : List ℕ
+path-tags = 4 ∷ 5 ∷ 6 ∷ []
 
 module _ (w : List ℕ) where
   ends-concept : (C : Concept) (e : ℕ) → Ends w (concept C) e → HasConcept w e × (conceptAt w e ≡ C)
@@ -32,6 +38,21 @@ module _ (w : List ℕ) where
   ends-path p e h =
       let q : pathAt w e ≡ p = ap topPath (h .1) in
       ((h .0, h .1 ∙ ap {B = Pile} (λ (r : Path). some (path r ∷ h .0)) (sym q)), q)
+
+  -- an item ends after a token at least
+  pub concept-some : (e : ℕ) → HasConcept w e → 0 < e
+  unfolding HasConcept Ends
+  concept-some e h = at-suc w (λ e. 0 < e) (concept (conceptAt w e)) e h (λ d _. omega arith)
+
+  pub path-some : (e : ℕ) → HasPath w e → 0 < e
+  unfolding HasPath Ends
+  path-some e h = at-suc w (λ e. 0 < e) (path (pathAt w e)) e h (λ d _. omega arith)
+
+  pub concept-next : (e : ℕ) → HasConcept w e → e ≡ suc (e - 1)
+  concept-next e h = omega (arith, concept-some e h)
+
+  pub path-next : (e : ℕ) → HasPath w e → e ≡ suc (e - 1)
+  path-next e h = omega (arith, path-some e h)
 
   -- What a token of a concept says: its operands end at e and at m, where the last operand starts.
   abbrev pub Reads : ℕ → Token → Type 0
@@ -108,20 +129,63 @@ module _ (w : List ℕ) where
       go (step p forward P C) q h = reads p forward P C q h
       go (step p backward P C) q h = reads p backward P C q h
 
-  pub number-concept : (e : ℕ) → HasConcept w e → stepNumber w e ≡ stepNumber w (startOf w e 1) + conceptSteps (conceptAt w e)
+  pub step-reads : (e : ℕ) (r : Direction) (P : ℕ) → HasPath w (suc e) → tokenAt w e ≡ stepToken r P → ReadsStep e r P
+  step-reads e forward P h q = path-reads e (Forward P) h q
+  step-reads e backward P h q = path-reads e (Backward P) h q
+
+  -- the last token of an item
+  pub concept-suc : (e : ℕ) → HasConcept w e → HasConcept w (suc (e - 1))
+  concept-suc e h = subst (HasConcept w) (concept-next e h) h
+
+  pub path-suc : (e : ℕ) → HasPath w e → HasPath w (suc (e - 1))
+  path-suc e h = subst (HasPath w) (path-next e h) h
+
+  pub concept-token : (e : ℕ) {t : Token} → HasConcept w e → tokenAt w (e - 1) ≡ t → Reads (e - 1) t
+  concept-token e {t} h q = concept-reads (e - 1) t (concept-suc e h) q
+
+  pub path-token : (e : ℕ) {t : Token} → HasPath w e → tokenAt w (e - 1) ≡ t → ReadsPath (e - 1) t
+  path-token e {t} h q = path-reads (e - 1) t (path-suc e h) q
+
+  -- a path's tokens end no concept, and a concept's end no path
+  pub concept-not-path : (e : ℕ) → HasConcept w e → OneOf path-tags (tagOf the-type (tokenAt w (e - 1))) → ⊥
+  concept-not-path e h k = go (tokenAt w (e - 1)) k (concept-token e h refl)
+    where
+      go : (t : Token) → OneOf path-tags (tagOf the-type t) → Reads (e - 1) t → ⊥
+      go (Class A) k r = miss path-tags 0 tt k
+      go Everything k r = miss path-tags 1 tt k
+      go (Constant a) k r = miss path-tags 2 tt k
+      go Both k r = miss path-tags 3 tt k
+      go Empty k r = r
+      go (Forward P) k r = r
+      go (Backward P) k r = r
+      go Reached k r = miss path-tags 7 tt k
+      go Common k r = miss path-tags 8 tt k
+
+  pub path-not-concept : (e : ℕ) → HasPath w e → OneOf concept-tags (tagOf the-type (tokenAt w (e - 1))) → ⊥
+  path-not-concept e h k = go (tokenAt w (e - 1)) k (path-token e h refl)
+    where
+      go : (t : Token) → OneOf concept-tags (tagOf the-type t) → ReadsPath (e - 1) t → ⊥
+      go (Class A) k r = r
+      go Everything k r = r
+      go (Constant a) k r = r
+      go Both k r = r
+      go Empty k r = miss concept-tags 4 tt k
+      go (Forward P) k r = miss concept-tags 5 tt k
+      go (Backward P) k r = miss concept-tags 6 tt k
+      go Reached k r = r
+      go Common k r = r
+
+  -- the tokens from its start spell it
+  pub concept-spells : (e : ℕ) → HasConcept w e → Spells w (conceptAt w e) (startOf w e 1) e
   unfolding HasConcept Ends
-  number-concept e h = concept-number w (conceptAt w e) (startOf w e 1) e (ends-spells w (conceptAt w e) e h)
+  concept-spells e h = ends-spells w (conceptAt w e) e h
+
+  pub number-concept : (e : ℕ) → HasConcept w e → stepNumber w e ≡ stepNumber w (startOf w e 1) + conceptSteps (conceptAt w e)
+  number-concept e h = concept-number w (conceptAt w e) (startOf w e 1) e (concept-spells e h)
 
   pub number-path : (e : ℕ) → HasPath w e → stepNumber w e ≡ stepNumber w (startOf w e 1) + pathSteps (pathAt w e)
   unfolding HasPath Ends
   number-path e h = path-number w (pathAt w e) (startOf w e 1) e (path-spells w (pathAt w e) e h)
-
-  pub declared-concept : (g : Signature) (n : ℕ) → ((i : ℕ) → i < n → So (suits g (tokenAt w i) (rightAt conceptLayout w i)))
-      → HasConcept w n
-      → Declared g (conceptAt w n)
-  unfolding HasConcept Ends
-  declared-concept g n suited h =
-      concept-declared w g n suited (conceptAt w n) (startOf w n 1) n (omega arith) (ends-spells w (conceptAt w n) n h)
 
   -- a concept that is the whole pile starts at the first token
   pub whole-concept : (n : ℕ) → So (isConcept (pileAfter w n)) → HasConcept w n × (startOf w n 1 ≡ zero)

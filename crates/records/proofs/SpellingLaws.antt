@@ -1,23 +1,19 @@
 -- What tokens spell, by recursion on the concept: an item on the pile is spelt from where it starts to where it ends. So its
--- steps are numbered between the two, and it names what its tokens name.
-use Prim.Native.Nat.{ℕ, suc, _+_, _≤_, _<_}
+-- steps are numbered between the two.
+use Prim.Native.Nat.{ℕ, suc, _+_, _<_}
 use native.Mathlib.Omega.{arith}
-use mathlib.Core.Bool.{true, false, So}
+use mathlib.Core.Bool.{true, false}
 use mathlib.Core.List.{List, [], _∷_}
 use mathlib.Core.Path.{_≡_, refl, sym, ap, subst, _∙_}
-use borrow.Author.Tests.{ltb-true}
 use Rattle.records.specs.declared.concept.Token.{Token}
-use Rattle.records.specs.declared.concept.Token.the-variants.{Class, Everything, Constant, Both, Empty, Forward, Backward, Reached, Common}
+use Rattle.records.specs.declared.concept.Token.the-variants.{Class, Everything, Constant, Both, Empty, Reached, Common}
 use Rattle.records.specs.Concept.{Direction, forward, backward, Concept, class, everything, constant, both, reached, common, Path, empty, step}
-use Rattle.records.specs.declared.schema.Signature.{Signature}
-use Rattle.records.specs.Layout.{conceptLayout, rightAt}
 use Rattle.records.specs.ConceptRecord.{Item, concept, path, tokenAt}
-use Rattle.records.specs.Refusal.{isStep, suits}
-use Rattle.chase.specs.Steps.{conceptSteps, pathSteps}
-use Rattle.chase.specs.Declared.{Declared, DeclaredPath}
-use Rattle.chase.specs.Tokens.{startOf, stepNumber}
-use Rattle.chase.proofs.CountLaws.{count-next, count-same}
-use Rattle.chase.proofs.PileLaws.{lastToken, operands, Ends, at-suc, ends-token, ends-none, ends-one, ends-two}
+use Rattle.records.specs.Refusal.{isStep, stepAt}
+use Rattle.records.specs.Steps.{conceptSteps, pathSteps}
+use Rattle.records.specs.Reading.{startOf, stepToken, stepNumber}
+use Rattle.records.proofs.FiniteLaws.{count-next, count-same}
+use Rattle.records.proofs.PileLaws.{lastToken, operands, Ends, at-suc, ends-token, ends-none, ends-one, ends-two}
 
 module _ (w : List ℕ) where
   -- the tokens from b to e spell the concept, or the path
@@ -33,7 +29,7 @@ module _ (w : List ℕ) where
     pub SpellsPath : Path → ℕ → ℕ → Type 0
     SpellsPath empty b e = (e ≡ suc b) × (tokenAt w b ≡ Empty)
     SpellsPath (step p r P C) b e =
-        (m d : ℕ) × SpellsPath p b m × Spells C m d × (e ≡ suc d) × (tokenAt w d ≡ lastToken (path (step p r P C)))
+        (m d : ℕ) × SpellsPath p b m × Spells C m d × (e ≡ suc d) × (tokenAt w d ≡ stepToken r P)
 
   mutual
     pub spells-order : (C : Concept) (b e : ℕ) → Spells C b e → b < e
@@ -44,7 +40,7 @@ module _ (w : List ℕ) where
     spells-order (reached p) b e s = omega (arith, s .2, path-order p b (s .0) (s .1))
     spells-order (common p q) b e s = omega (arith, s .4, path-order p b (s .0) (s .2), path-order q (s .0) (s .1) (s .3))
 
-    path-order : (p : Path) (b e : ℕ) → SpellsPath p b e → b < e
+    pub path-order : (p : Path) (b e : ℕ) → SpellsPath p b e → b < e
     path-order empty b e s = omega (arith, s .0)
     path-order (step p r P C) b e s = omega (arith, s .4, path-order p b (s .0) (s .2), spells-order C (s .0) (s .1) (s .3))
 
@@ -95,14 +91,14 @@ module _ (w : List ℕ) where
 
   -- the number of steps before and in an item
   step-next : (e : ℕ) (t : Token) → tokenAt w e ≡ t → isStep t ≡ true → stepNumber w (suc e) ≡ suc (stepNumber w e)
-  step-next e t q h = count-next (λ i. isStep (tokenAt w i)) e (ap isStep q ∙ h)
+  step-next e t q h = count-next (stepAt w) e (ap isStep q ∙ h)
 
   step-same : (e : ℕ) (t : Token) → tokenAt w e ≡ t → isStep t ≡ false → stepNumber w (suc e) ≡ stepNumber w e
-  step-same e t q h = count-same (λ i. isStep (tokenAt w i)) e (ap isStep q ∙ h)
+  step-same e t q h = count-same (stepAt w) e (ap isStep q ∙ h)
 
-  last-step : (r : Direction) (P : ℕ) (p : Path) (C : Concept) → isStep (lastToken (path (step p r P C))) ≡ true
-  last-step forward P p C = refl
-  last-step backward P p C = refl
+  step-step : (r : Direction) (P : ℕ) → isStep (stepToken r P) ≡ true
+  step-step forward P = refl
+  step-step backward P = refl
 
   -- the steps of what is spelt stand between its start and its end
   mutual
@@ -137,42 +133,7 @@ module _ (w : List ℕ) where
         omega (
           arith,
           ap (stepNumber w) (s .4),
-          step-next (s .1) _ (s .5) (last-step r P p C),
+          step-next (s .1) (stepToken r P) (s .5) (step-step r P),
           path-number p b (s .0) (s .2),
           concept-number C (s .0) (s .1) (s .3),
         )
-
-  -- what is spelt by tokens with declared arguments is declared
-  module _ (g : Signature) (n : ℕ) (suited : (i : ℕ) → i < n → So (suits g (tokenAt w i) (rightAt conceptLayout w i))) where
-    suits-as : (i : ℕ) (t : Token) → i < n → tokenAt w i ≡ t → So (suits g t (rightAt conceptLayout w i))
-    suits-as i t h q = subst (λ (t : Token). So (suits g t (rightAt conceptLayout w i))) q (suited i h)
-
-    suits-step : (r : Direction) (P : ℕ) (p : Path) (C : Concept) (i : ℕ) → i < n → tokenAt w i ≡ lastToken (path (step p r P C))
-        → P < g .attributes
-    suits-step forward P p C i h q = ltb-true P (g .attributes) (suits-as i (Forward P) h q)
-    suits-step backward P p C i h q = ltb-true P (g .attributes) (suits-as i (Backward P) h q)
-
-    mutual
-      pub concept-declared : (C : Concept) (b e : ℕ) → e ≤ n → Spells C b e → Declared g C
-      concept-declared (class A) b e h s = ltb-true A (g .classes) (suits-as b (Class A) (omega (arith, s .0)) (s .1))
-      concept-declared everything b e h s = tt
-      concept-declared (constant a) b e h s = ltb-true a (g .constants) (suits-as b (Constant a) (omega (arith, s .0)) (s .1))
-      concept-declared (both C D) b e h s = (
-        concept-declared C b (s .0) (omega (arith, s .4, spells-order D (s .0) (s .1) (s .3))) (s .2),
-        concept-declared D (s .0) (s .1)
-            (omega (arith, s .4)) (s .3),
-      )
-      concept-declared (reached p) b e h s = path-declared p b (s .0) (omega (arith, s .2)) (s .1)
-      concept-declared (common p q) b e h s = (
-        path-declared p b (s .0) (omega (arith, s .4, path-order q (s .0) (s .1) (s .3))) (s .2),
-        path-declared q (s .0) (s .1)
-            (omega (arith, s .4)) (s .3),
-      )
-
-      path-declared : (p : Path) (b e : ℕ) → e ≤ n → SpellsPath p b e → DeclaredPath g p
-      path-declared empty b e h s = tt
-      path-declared (step p r P C) b e h s = (
-        path-declared p b (s .0) (omega (arith, s .4, spells-order C (s .0) (s .1) (s .3))) (s .2),
-        suits-step r P p C (s .1) (omega (arith, s .4)) (s .5),
-        concept-declared C (s .0) (s .1) (omega (arith, s .4)) (s .3),
-      )

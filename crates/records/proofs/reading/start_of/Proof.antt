@@ -2,10 +2,10 @@
 use Prim.Native.Nat.{suc, _+_, _≤_}
 use native.Mathlib.Omega.{arith}
 use mathlib.Core.Path.{_≡_, refl, sym, ap, _∙_}
-use Rattle.chase.specs.Tokens.{takes, startOf}
-use Rattle.tokens.proofs.ScanLaws.{takes-few, goes-on, start-more, start-done}
-use Rattle.tokens.proofs.start_of.Statement.{statement}
-use Rattle.tokens.proofs.start_of.Tie as tie
+use Rattle.records.specs.Reading.{takes, startOf}
+use Rattle.records.proofs.ReadingScanLaws.{takes-few, goes-on, start-more, start-done}
+use Rattle.records.proofs.reading.start_of.Statement.{statement}
+use Rattle.records.proofs.reading.start_of.Tie as tie
 
 abbrev Inv-loop : tie.InvT-loop
 Inv-loop words end at₀ wanted₀ at wanted = (startOf words at wanted ≡ startOf words end 1) × (at ≤ end) × (wanted + at ≤ suc end)

@@ -1,0 +1,55 @@
+-- What tokens with declared arguments spell is declared: by recursion on the concept that they spell.
+use Prim.Native.Nat.{ℕ, _≤_, _<_}
+use native.Mathlib.Omega.{arith}
+use mathlib.Core.Bool.{So}
+use mathlib.Core.List.{List}
+use mathlib.Core.Path.{_≡_, subst}
+use borrow.Author.Tests.{ltb-true}
+use Rattle.records.specs.declared.concept.Token.{Token}
+use Rattle.records.specs.declared.concept.Token.the-variants.{Class, Constant, Forward, Backward}
+use Rattle.records.specs.declared.schema.Signature.{Signature}
+use Rattle.records.specs.Concept.{Direction, forward, backward, Concept, class, everything, constant, both, reached, common, Path, empty, step}
+use Rattle.records.specs.Layout.{conceptLayout, rightAt}
+use Rattle.records.specs.ConceptRecord.{tokenAt}
+use Rattle.records.specs.Refusal.{suits}
+use Rattle.records.specs.Reading.{startOf, conceptAt, HasConcept, stepToken}
+use Rattle.records.proofs.SpellingLaws.{Spells, SpellsPath, spells-order, path-order}
+use Rattle.records.proofs.ReadingLaws.{concept-spells}
+use Rattle.chase.specs.Declared.{Declared, DeclaredPath}
+
+module _ (w : List ℕ) (g : Signature) (n : ℕ) (suited : (i : ℕ) → i < n → So (suits g (tokenAt w i) (rightAt conceptLayout w i))) where
+  suits-as : (i : ℕ) (t : Token) → i < n → tokenAt w i ≡ t → So (suits g t (rightAt conceptLayout w i))
+  suits-as i t h q = subst (λ (t : Token). So (suits g t (rightAt conceptLayout w i))) q (suited i h)
+
+  suits-step : (r : Direction) (P i : ℕ) → i < n → tokenAt w i ≡ stepToken r P
+      → P < g .attributes
+  suits-step forward P i h q = ltb-true P (g .attributes) (suits-as i (Forward P) h q)
+  suits-step backward P i h q = ltb-true P (g .attributes) (suits-as i (Backward P) h q)
+
+  mutual
+    concept-declared : (C : Concept) (b e : ℕ) → e ≤ n → Spells w C b e → Declared g C
+    concept-declared (class A) b e h s = ltb-true A (g .classes) (suits-as b (Class A) (omega (arith, s .0)) (s .1))
+    concept-declared everything b e h s = tt
+    concept-declared (constant a) b e h s = ltb-true a (g .constants) (suits-as b (Constant a) (omega (arith, s .0)) (s .1))
+    concept-declared (both C D) b e h s = (
+      concept-declared C b (s .0) (omega (arith, s .4, spells-order w D (s .0) (s .1) (s .3))) (s .2),
+      concept-declared D (s .0) (s .1)
+          (omega (arith, s .4)) (s .3),
+    )
+    concept-declared (reached p) b e h s = path-declared p b (s .0) (omega (arith, s .2)) (s .1)
+    concept-declared (common p q) b e h s = (
+      path-declared p b (s .0) (omega (arith, s .4, path-order w q (s .0) (s .1) (s .3))) (s .2),
+      path-declared q (s .0) (s .1)
+          (omega (arith, s .4)) (s .3),
+    )
+
+    path-declared : (p : Path) (b e : ℕ) → e ≤ n → SpellsPath w p b e → DeclaredPath g p
+    path-declared empty b e h s = tt
+    path-declared (step p r P C) b e h s = (
+      path-declared p b (s .0) (omega (arith, s .4, spells-order w C (s .0) (s .1) (s .3))) (s .2),
+      suits-step r P (s .1) (omega (arith, s .4)) (s .5),
+      concept-declared C (s .0) (s .1) (omega (arith, s .4)) (s .3),
+    )
+
+  pub declared-concept : HasConcept w n → Declared g (conceptAt w n)
+  declared-concept h = concept-declared (conceptAt w n) (startOf w n 1) n (omega arith) (concept-spells w n h)

@@ -1,3 +1,0 @@
--- Laws that several proofs here share.
-mod ScanLaws
-pub mod EndLaws
