@@ -15,10 +15,13 @@ use records::concept::token_at;
 use records::state::ATTRIBUTE_KINDS;
 use records::state::CONSTANT_KINDS;
 use records::state::objects;
-ghost use Prim.Native.Nat.{_<_, _^_};
-ghost use Rattle.records.specs.ConceptRecord.{pileAfter};
-ghost use Rattle.records.specs.Pile.{below, HasConcept, HasPath};
-ghost use Rattle.evaluate.specs.Places.{Place, ConceptAt, BothAt, ReachedAt, CommonAt, PathAt, StepAt};
+ghost use Prim.Native.Nat.{suc, _<_, _^_};
+ghost use mathlib.Core.Path.{_≡_};
+ghost use Rattle.records.specs.declared.concept.Token.the-variants.{Both, Reached, Common};
+ghost use Rattle.records.specs.Concept.{directionOf};
+ghost use Rattle.records.specs.ConceptRecord.{tokenAt};
+ghost use Rattle.records.specs.Reading.{HasConcept, HasPath, stepToken};
+ghost use Rattle.evaluate.specs.Places.{Place, ConceptAt, PathAt};
 
 // Where a concept's tokens start, and the set that it selects.
 pub struct Found {
@@ -29,14 +32,18 @@ pub struct Found {
 // The concept that ends at `end`.
 pub fn concept(words: &[u16], state: &[u16], seen: &[u64; TABLE_WORDS], end: usize) -> Found
     requires { ⌜ Place (now words) (now state) (now seen) end ⌝ }
-    requires { ⌜ HasConcept (pileAfter (now words) end) ⌝ }
-    ensures { λ r. ⌜ ConceptAt (now (words .entry)) (now (state .entry)) end (r .start) (r .set) ⌝ }
+    requires { ⌜ HasConcept (now words) end ⌝ }
+    ensures { λ r. ⌜ ConceptAt (now (words .entry)) (now (state .entry)) end r ⌝ }
 {
     let at = end - 1;
     match token_at(words, at) {
         Token::Class(a) => Found {
             start: at,
             set: kind_set(seen, a),
+        },
+        Token::Everything => Found {
+            start: at,
+            set: everything(objects(state)),
         },
         Token::Constant(a) => Found {
             start: at,
@@ -45,22 +52,22 @@ pub fn concept(words: &[u16], state: &[u16], seen: &[u64; TABLE_WORDS], end: usi
         Token::Both => both(words, state, seen, at),
         Token::Reached => reached(words, state, seen, at),
         Token::Common => common(words, state, seen, at),
-        // Everything: no other token is left that ends a concept.
-        _ => Found {
+        // A path's tokens end no concept.
+        Token::Empty | Token::Forward(_) | Token::Backward(_) => Found {
             start: at,
-            set: everything(objects(state)),
+            set: [0; SET_WORDS],
         },
     }
 }
 
-// Both of the two concepts that end at `end`.
-fn both(words: &[u16], state: &[u16], seen: &[u64; TABLE_WORDS], end: usize) -> Found
-    requires { ⌜ Place (now words) (now state) (now seen) end ⌝ }
-    requires { ⌜ HasConcept (pileAfter (now words) end) ⌝ }
-    requires { ⌜ HasConcept (below (pileAfter (now words) end)) ⌝ }
-    ensures { λ r. ⌜ BothAt (now (words .entry)) (now (state .entry)) end (r .start) (r .set) ⌝ }
+// Both of two concepts, whose token stands at `at`.
+fn both(words: &[u16], state: &[u16], seen: &[u64; TABLE_WORDS], at: usize) -> Found
+    requires { ⌜ Place (now words) (now state) (now seen) (suc at) ⌝ }
+    requires { ⌜ HasConcept (now words) (suc at) ⌝ }
+    requires { ⌜ tokenAt (now words) at ≡ Both ⌝ }
+    ensures { λ r. ⌜ ConceptAt (now (words .entry)) (now (state .entry)) (suc at) r ⌝ }
 {
-    let last = concept(words, state, seen, end);
+    let last = concept(words, state, seen, at);
     let first = concept(words, state, seen, last.start);
     let ps = first.set;
     let qs = last.set;
@@ -70,30 +77,31 @@ fn both(words: &[u16], state: &[u16], seen: &[u64; TABLE_WORDS], end: usize) -> 
     }
 }
 
-// Some object is reached by the path that ends at `end`. Relations are locals of this function and the next alone, so that
-// other concepts take little stack. What a relation shares with itself is all that it has.
-fn reached(words: &[u16], state: &[u16], seen: &[u64; TABLE_WORDS], end: usize) -> Found
-    requires { ⌜ Place (now words) (now state) (now seen) end ⌝ }
-    requires { ⌜ HasPath (pileAfter (now words) end) ⌝ }
-    ensures { λ r. ⌜ ReachedAt (now (words .entry)) (now (state .entry)) end (r .start) (r .set) ⌝ }
+// Some object is reached by a path; its token stands at `at`. Relations are locals of this function and the next alone, so
+// that other concepts take little stack. What a relation shares with itself is all that it has.
+fn reached(words: &[u16], state: &[u16], seen: &[u64; TABLE_WORDS], at: usize) -> Found
+    requires { ⌜ Place (now words) (now state) (now seen) (suc at) ⌝ }
+    requires { ⌜ HasConcept (now words) (suc at) ⌝ }
+    requires { ⌜ tokenAt (now words) at ≡ Reached ⌝ }
+    ensures { λ r. ⌜ ConceptAt (now (words .entry)) (now (state .entry)) (suc at) r ⌝ }
 {
     let mut rel = [0u64; RELATION_WORDS];
-    let start = path(words, state, seen, end, &mut rel);
+    let start = path(words, state, seen, at, &mut rel);
     Found {
         start,
         set: shared(&rel, &rel, objects(state)),
     }
 }
 
-// The two paths that end at `end` reach a common object.
-fn common(words: &[u16], state: &[u16], seen: &[u64; TABLE_WORDS], end: usize) -> Found
-    requires { ⌜ Place (now words) (now state) (now seen) end ⌝ }
-    requires { ⌜ HasPath (pileAfter (now words) end) ⌝ }
-    requires { ⌜ HasPath (below (pileAfter (now words) end)) ⌝ }
-    ensures { λ r. ⌜ CommonAt (now (words .entry)) (now (state .entry)) end (r .start) (r .set) ⌝ }
+// Two paths reach a common object; their token stands at `at`.
+fn common(words: &[u16], state: &[u16], seen: &[u64; TABLE_WORDS], at: usize) -> Found
+    requires { ⌜ Place (now words) (now state) (now seen) (suc at) ⌝ }
+    requires { ⌜ HasConcept (now words) (suc at) ⌝ }
+    requires { ⌜ tokenAt (now words) at ≡ Common ⌝ }
+    ensures { λ r. ⌜ ConceptAt (now (words .entry)) (now (state .entry)) (suc at) r ⌝ }
 {
     let mut last = [0u64; RELATION_WORDS];
-    let middle = path(words, state, seen, end, &mut last);
+    let middle = path(words, state, seen, at, &mut last);
     let mut first = [0u64; RELATION_WORDS];
     let start = path(words, state, seen, middle, &mut first);
     Found {
@@ -111,38 +119,44 @@ pub fn path(
     rel: &mut [u64; RELATION_WORDS],
 ) -> usize
     requires { ⌜ Place (now words) (now state) (now seen) end ⌝ }
-    requires { ⌜ HasPath (pileAfter (now words) end) ⌝ }
+    requires { ⌜ HasPath (now words) end ⌝ }
     ensures { λ r. ⌜ PathAt (now (words .entry)) (now (state .entry)) end r (now (rel .exit)) ⌝ }
 {
     let at = end - 1;
     match token_at(words, at) {
-        Token::Forward(p) => step(words, state, seen, at, p, false, rel),
-        Token::Backward(p) => step(words, state, seen, at, p, true, rel),
-        // The empty path: no other token is left that ends a path.
-        _ => {
+        Token::Empty => {
             identity(objects(state), rel);
             at
         }
+        Token::Forward(p) => step(words, state, seen, at, p, false, rel),
+        Token::Backward(p) => step(words, state, seen, at, p, true, rel),
+        // A concept's tokens end no path.
+        Token::Class(_)
+        | Token::Everything
+        | Token::Constant(_)
+        | Token::Both
+        | Token::Reached
+        | Token::Common => at,
     }
 }
 
-// The path with a step at its end that lands in a concept; the concept ends at `end`.
+// The path with a step at its end, whose token stands at `at`.
 fn step(
     words: &[u16],
     state: &[u16],
     seen: &[u64; TABLE_WORDS],
-    end: usize,
+    at: usize,
     attribute: usize,
     backward: bool,
     rel: &mut [u64; RELATION_WORDS],
 ) -> usize
-    requires { ⌜ Place (now words) (now state) (now seen) end ⌝ }
-    requires { ⌜ HasConcept (pileAfter (now words) end) ⌝ }
-    requires { ⌜ HasPath (below (pileAfter (now words) end)) ⌝ }
+    requires { ⌜ Place (now words) (now state) (now seen) (suc at) ⌝ }
+    requires { ⌜ HasPath (now words) (suc at) ⌝ }
+    requires { ⌜ tokenAt (now words) at ≡ stepToken (directionOf backward) attribute ⌝ }
     requires { ⌜ attribute < 2 ^ 16 ⌝ }
-    ensures { λ r. ⌜ StepAt (now (words .entry)) (now (state .entry)) end attribute backward r (now (rel .exit)) ⌝ }
+    ensures { λ r. ⌜ PathAt (now (words .entry)) (now (state .entry)) (suc at) r (now (rel .exit)) ⌝ }
 {
-    let landing = concept(words, state, seen, end);
+    let landing = concept(words, state, seen, at);
     let start = path(words, state, seen, landing.start, rel);
     let into = landing.set;
     let step = Step {

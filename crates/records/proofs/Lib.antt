@@ -11,6 +11,5 @@ pub mod PileLaws
 pub mod SpellingLaws
 pub mod ReadingLaws
 pub mod ReadingScanLaws
-pub mod TopLaws
 -- The twelve small states of document 01.
 pub mod Examples

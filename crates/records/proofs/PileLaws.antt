@@ -44,23 +44,24 @@ record Put (token : Token) (before after : List Item) : Type 0 where
   taken : before ≡ operands item ++ below
   own : token ≡ lastToken item
 
--- What was taken, where a pile is left of which X holds.
-
-took-concept : (X : Pile → Type 0) → (X none → ⊥) → (s : List Item) (rest : Concept → List Item → Pile) → X (takeConcept s rest) → (C : Concept) × (t : List Item) × (s ≡ concept C ∷ t) × X (rest C t)
-took-concept X bare [] rest h = absurd (bare h)
-took-concept X bare (concept C ∷ s) rest h = (C, s, refl, h)
-took-concept X bare (path c ∷ s) rest h = absurd (bare h)
-
-took-path : (X : Pile → Type 0) → (X none → ⊥) → (s : List Item) (rest : Path → List Item → Pile) → X (takePath s rest) → (c : Path) × (t : List Item) × (s ≡ path c ∷ t) × X (rest c t)
-took-path X bare [] rest h = absurd (bare h)
-took-path X bare (concept C ∷ s) rest h = absurd (bare h)
-took-path X bare (path c ∷ s) rest h = (c, s, refl, h)
-
 none≢some : (r : List Item) → _≡_ {A = Pile} none (some r) → ⊥
 none≢some r q = let z : _≡_ {A = ℕ} 0 1 = cc in omega arith
 
 some-injective : (s r : List Item) → _≡_ {A = Pile} (some s) (some r) → r ≡ s
 some-injective s r q = cc
+
+-- what was taken, where a pile is left
+took-concept : (s : List Item) (rest : Concept → List Item → Pile) (r : List Item) → takeConcept s rest ≡ some r
+    → (C : Concept) × (t : List Item) × (s ≡ concept C ∷ t) × (rest C t ≡ some r)
+took-concept [] rest r h = absurd (none≢some r h)
+took-concept (concept C ∷ s) rest r h = (C, s, refl, h)
+took-concept (path p ∷ s) rest r h = absurd (none≢some r h)
+
+took-path : (s : List Item) (rest : Path → List Item → Pile) (r : List Item) → takePath s rest ≡ some r
+    → (p : Path) × (t : List Item) × (s ≡ path p ∷ t) × (rest p t ≡ some r)
+took-path [] rest r h = absurd (none≢some r h)
+took-path (concept C ∷ s) rest r h = absurd (none≢some r h)
+took-path (path p ∷ s) rest r h = (p, s, refl, h)
 
 -- a token that takes nothing, one item, or two
 puts-none : (x : Item) (s r : List Item) → operands x ≡ [] → _≡_ {A = Pile} (some (x ∷ s)) (some r) → Put (lastToken x) s r
@@ -88,8 +89,8 @@ puts-step : (r : Direction) (P : ℕ) (s t : List Item)
     → takeConcept s (λ C a. takePath a λ p b. some (path (step p r P C) ∷ b)) ≡ some t
     → Put (stepToken r P) s t
 puts-step r P s t q =
-    let c = took-concept (λ x. x ≡ some t) (none≢some t) s _ q in
-    let p = took-path (λ x. x ≡ some t) (none≢some t) (c .1) _ (c .3) in
+    let c = took-concept s _ t q in
+    let p = took-path (c .1) _ t (c .3) in
     puts-two (path (step (p .0) r P (c .0))) (concept (c .0)) (path (p .0)) s (c .1) (p .1) t refl (c .2) (p .2) (p .3)
 
 push-puts : (token : Token) (s r : List Item) → push token s ≡ some r → Put token s r
@@ -97,18 +98,18 @@ push-puts (Class A) s r q = puts-none (concept (class A)) s r refl q
 push-puts Everything s r q = puts-none (concept everything) s r refl q
 push-puts (Constant a) s r q = puts-none (concept (constant a)) s r refl q
 push-puts Both s r q =
-    let d = took-concept (λ x. x ≡ some r) (none≢some r) s _ q in
-    let c = took-concept (λ x. x ≡ some r) (none≢some r) (d .1) _ (d .3) in
+    let d = took-concept s _ r q in
+    let c = took-concept (d .1) _ r (d .3) in
     puts-two (concept (both (c .0) (d .0))) (concept (d .0)) (concept (c .0)) s (d .1) (c .1) r refl (d .2) (c .2) (c .3)
 push-puts Empty s r q = puts-none (path empty) s r refl q
 push-puts (Forward P) s r q = puts-step forward P s r q
 push-puts (Backward P) s r q = puts-step backward P s r q
 push-puts Reached s r q =
-    let p = took-path (λ x. x ≡ some r) (none≢some r) s _ q in
+    let p = took-path s _ r q in
     record { item = concept (reached (p .0)); below = p .1; result = some-injective _ r (p .3); taken = p .2; own = refl }
 push-puts Common s r q =
-    let b = took-path (λ x. x ≡ some r) (none≢some r) s _ q in
-    let a = took-path (λ x. x ≡ some r) (none≢some r) (b .1) _ (b .3) in
+    let b = took-path s _ r q in
+    let a = took-path (b .1) _ r (b .3) in
     puts-two (concept (common (a .0) (b .0))) (path (b .0)) (path (a .0)) s (b .1) (a .1) r refl (b .2) (a .2) (a .3)
 
 takes-operands : (x : Item) → takes (lastToken x) ≡ length (operands x)

@@ -17,10 +17,9 @@ pub mod Refusal
 pub mod Outcome
 -- The semantics as tests that compute, for the worked examples.
 pub mod Executable
--- A concept's tokens, read from the right.
+-- What contracts of helper functions cite, and no definition above: the check's scan, a concept's tokens read from the right,
+-- and what names are in range.
+pub mod Scan
 pub mod Steps
 pub mod Reading
--- What contracts of helper functions cite, and nothing above them.
-pub mod Scan
-pub mod Pile
 pub mod InRange

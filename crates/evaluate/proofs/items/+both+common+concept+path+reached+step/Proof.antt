@@ -1,10 +1,12 @@
 -- The span of tokens falls: an operand ends before its item does, and the measure is twice the place where the item ends.
--- A token's own function stands between: it takes the place before the token, and its measure is one more than that of
--- the operands that end there. Each answer cites the span that the operands' spans make (PlaceLaws).
-use mathlib.Core.Bool.{true, false}
+-- A token's own function stands between: its measure is one more than that of the operands that end at its place. Each answer
+-- cites what the token makes of its operands (PlaceLaws).
 use mathlib.Core.Path.{sym, _∙_}
+use Rattle.records.specs.Concept.{directionOf}
+use Rattle.records.proofs.PileLaws.{start-le}
+use Rattle.records.proofs.ReadingLaws.{concept-some, path-some, concept-next, path-next, concept-reads, step-reads, concept-suc, path-suc, concept-token, path-token, concept-not-path, path-not-concept}
 use Rattle.evaluate.proofs.TokenLaws.{named-small}
-use Rattle.evaluate.proofs.PlaceLaws.{place-earlier, place-end, place-few, place-room, both-span, reached-span, common-span, step-span, concept-next, class-put, constant-put, everything-put, both-token, both-put, reached-token, reached-put, common-token, common-put, path-next, empty-put, step-token, step-put}
+use Rattle.evaluate.proofs.PlaceLaws.{place-earlier, place-end, place-few, place-room, place-below, class-selected, everything-selected, constant-selected, both-selected, reached-selected, common-selected, empty-related, step-related, concept-place, concept-put, path-place, path-put}
 use native.Mathlib.Omega.{arith}
 use borrow.Author.Needs.{needs}
 use Prim.Native.Nat.{ℕ, suc, _*_, _<_}
@@ -100,10 +102,10 @@ abbrev reached-calls : ℕ → reached-lts.Claims
 reached-calls t = (path-below t, path.Post, objects-reads.Asked, objects-reads.Learnt, shared-reads.Asked, shared-reads.Learnt)
 
 abbrev path-calls : ℕ → path-lts.Claims
-path-calls t = (token-at-reads.Asked, token-at-reads.Learnt, step-below t, step.Post, objects-reads.Asked, objects-reads.Learnt, identity-reads.Asked, identity-reads.Learnt)
+path-calls t = (token-at-reads.Asked, token-at-reads.Learnt, objects-reads.Asked, objects-reads.Learnt, identity-reads.Asked, identity-reads.Learnt, step-below t, step.Post)
 
 abbrev concept-calls : ℕ → concept-lts.Claims
-concept-calls t = (token-at-reads.Asked, token-at-reads.Learnt, kind-set-reads.Asked, kind-set-reads.Learnt, both-below t, both.Post, reached-below t, reached.Post, common-below t, common.Post, objects-reads.Asked, objects-reads.Learnt, everything-reads.Asked, everything-reads.Learnt)
+concept-calls t = (token-at-reads.Asked, token-at-reads.Learnt, kind-set-reads.Asked, kind-set-reads.Learnt, objects-reads.Asked, objects-reads.Learnt, everything-reads.Asked, everything-reads.Learnt, both-below t, both.Post, reached-below t, reached.Post, common-below t, common.Post)
 
 abbrev common-calls : ℕ → common-lts.Claims
 common-calls t = (path-below t, path.Post, objects-reads.Asked, objects-reads.Learnt, shared-reads.Asked, shared-reads.Learnt)
@@ -112,10 +114,16 @@ abbrev both-calls : ℕ → both-lts.Claims
 both-calls t = (concept-below t, concept.Post, shared-row-reads.Asked, shared-row-reads.Learnt)
 
 both-concept-requires : (t : ℕ) → both-lts.Need-concept-requires (both-calls t) (both-at t) both.Post
-both-concept-requires t c κs = (omega (arith, c .before .before .pre .0), (c .before .before .pre .1 .0, c .before .before .pre .1 .1 .0))
+both-concept-requires t c κs =
+    let s = c .before .before in
+    let r = concept-reads (s .args .words .now) (s .args .at) _ (s .pre .1 .1 .0) (s .pre .1 .1 .1) in
+    (omega (arith, s .pre .0), (place-earlier (s .pre .1 .0) (omega arith), r .2))
 
 both-concept-requires-2 : (t : ℕ) → both-lts.Need-concept-requires-2 (both-calls t) (both-at t) both.Post
-both-concept-requires-2 t c κs = (omega (arith, c .before .before .before .pre .0, c .concept .ensures .span .earlier), (place-earlier (c .before .before .before .pre .1 .0) (omega (arith, c .concept .ensures .span .earlier)), rw (c .concept .ensures .span .rest) (c .before .before .before .pre .1 .1 .1)))
+both-concept-requires-2 t c κs =
+    let s = c .before .before .before in
+    let r = concept-reads (s .args .words .now) (s .args .at) _ (s .pre .1 .1 .0) (s .pre .1 .1 .1) in
+    (omega (arith, s .pre .0, c .concept .ensures .start, start-le (s .args .words .now) (s .args .at) 1), (place-below (s .pre .1 .0) (c .concept .ensures .start), rw (c .concept .ensures .start) (r .3)))
 
 both-slice-aggregate-shared-row : (t : ℕ) → both-lts.Need-slice-aggregate-shared-row (both-calls t) (both-at t) both.Post
 both-slice-aggregate-shared-row t c = search needs
@@ -127,13 +135,22 @@ both-shared-row-requires : (t : ℕ) → both-lts.Need-shared-row-requires (both
 both-shared-row-requires t c κs = (omega (arith, c .before .before .before .before .concept2 .ensures .selection .size), omega (arith, c .before .before .before .before .before .concept .ensures .selection .size))
 
 both-returns : (t : ℕ) → both-lts.Need-returns (both-calls t) (both-at t) both.Post
-both-returns t c = both-span (c .before .before .before .before .before .before .concept .ensures) (c .before .before .before .before .before .concept2 .ensures) (c .shared-row .ensures)
+both-returns t c =
+    let s = c .before .before .before .before .before .before .before .before .before in
+    let r = concept-reads (s .args .words .now) (s .args .at) _ (s .pre .1 .1 .0) (s .pre .1 .1 .1) in
+    both-selected (s .pre .1 .0) r (c .before .before .before .before .before .before .concept .ensures) (c .before .before .before .before .before .concept2 .ensures) (c .shared-row .ensures)
 
 common-path-requires : (t : ℕ) → common-lts.Need-path-requires (common-calls t) (common-at t) common.Post
-common-path-requires t c κs = (omega (arith, c .before .before .before .pre .0), (c .before .before .before .pre .1 .0, c .before .before .before .pre .1 .1 .0))
+common-path-requires t c κs =
+    let s = c .before .before .before in
+    let r = concept-reads (s .args .words .now) (s .args .at) _ (s .pre .1 .1 .0) (s .pre .1 .1 .1) in
+    (omega (arith, s .pre .0), (place-earlier (s .pre .1 .0) (omega arith), r .2))
 
 common-path-requires-2 : (t : ℕ) → common-lts.Need-path-requires-2 (common-calls t) (common-at t) common.Post
-common-path-requires-2 t c κs = (omega (arith, c .before .before .before .before .before .pre .0, c .before .path .ensures .span .earlier), (place-earlier (c .before .before .before .before .before .pre .1 .0) (omega (arith, c .before .path .ensures .span .earlier)), rw (c .before .path .ensures .span .rest) (c .before .before .before .before .before .pre .1 .1 .1)))
+common-path-requires-2 t c κs =
+    let s = c .before .before .before .before .before in
+    let r = concept-reads (s .args .words .now) (s .args .at) _ (s .pre .1 .1 .0) (s .pre .1 .1 .1) in
+    (omega (arith, s .pre .0, c .before .path .ensures .start, start-le (s .args .words .now) (s .args .at) 1), (place-below (s .pre .1 .0) (c .before .path .ensures .start), rw (c .before .path .ensures .start) (r .3)))
 
 common-slice-aggregate-shared : (t : ℕ) → common-lts.Need-slice-aggregate-shared (common-calls t) (common-at t) common.Post
 common-slice-aggregate-shared t c = sym (c .before .path2 .ensures .relation .size)
@@ -145,13 +162,18 @@ common-objects-requires : (t : ℕ) → common-lts.Need-objects-requires (common
 common-objects-requires t c κs = search needs
 
 common-shared-requires : (t : ℕ) → common-lts.Need-shared-requires (common-calls t) (common-at t) common.Post
-common-shared-requires t c κs = (omega (arith, place-room (c .before .before .before .before .before .before .before .before .before .pre .1 .0) (c .objects .ensures .value), c .before .before .before .path2 .ensures .relation .size), omega (arith, place-room (c .before .before .before .before .before .before .before .before .before .pre .1 .0) (c .objects .ensures .value), c .before .before .before .before .before .path .ensures .relation .size))
+common-shared-requires t c κs =
+    let n = place-room (c .before .before .before .before .before .before .before .before .before .pre .1 .0) (c .objects .ensures .value) in
+    (omega (arith, n, c .before .before .before .path2 .ensures .relation .size), omega (arith, n, c .before .before .before .before .before .path .ensures .relation .size))
 
 common-returns : (t : ℕ) → common-lts.Need-returns (common-calls t) (common-at t) common.Post
-common-returns t c = common-span (c .before .before .before .before .before .before .before .before .before .before .pre .1 .0) (c .before .before .before .before .before .before .path .ensures) (c .before .before .before .before .path2 .ensures) (c .before .objects .ensures .value) (c .shared .ensures)
+common-returns t c =
+    let s = c .before .before .before .before .before .before .before .before .before .before in
+    let r = concept-reads (s .args .words .now) (s .args .at) _ (s .pre .1 .1 .0) (s .pre .1 .1 .1) in
+    common-selected (s .pre .1 .0) r (c .before .before .before .before .before .before .path .ensures) (c .before .before .before .before .path2 .ensures) (c .before .objects .ensures .value) (c .shared .ensures)
 
 concept-sub-at : (t : ℕ) → concept-lts.Need-sub-at (concept-calls t) (concept-at t) concept.Post
-concept-sub-at t c = omega (arith, concept-next (c .before .before .pre .1 .0) (c .before .before .pre .1 .1))
+concept-sub-at t c = concept-some (c .before .before .args .words .now) _ (c .before .before .pre .1 .1)
 
 concept-token-at-requires : (t : ℕ) → concept-lts.Need-token-at-requires (concept-calls t) (concept-at t) concept.Post
 concept-token-at-requires t c κs = omega (arith, place-few (c .before .before .pre .1 .0))
@@ -162,6 +184,15 @@ concept-enum-known-a t c = search needs
 concept-kind-set-requires : (t : ℕ) → concept-lts.Need-kind-set-requires (concept-calls t) (concept-at t) concept.Post
 concept-kind-set-requires t c κs = c .before .before .before .before .before .before .pre .1 .0 .evaluable .index .size
 
+concept-enum-told : (t : ℕ) → concept-lts.Need-enum-told (concept-calls t) (concept-at t) concept.Post
+concept-enum-told t c = search needs
+
+concept-objects-requires : (t : ℕ) → concept-lts.Need-objects-requires (concept-calls t) (concept-at t) concept.Post
+concept-objects-requires t c κs = search needs
+
+concept-everything-requires : (t : ℕ) → concept-lts.Need-everything-requires (concept-calls t) (concept-at t) concept.Post
+concept-everything-requires t c κs = place-room (c .before .before .before .before .before .before .pre .1 .0) (c .objects .ensures .value)
+
 concept-enum-known-a-2 : (t : ℕ) → concept-lts.Need-enum-known-a-2 (concept-calls t) (concept-at t) concept.Post
 concept-enum-known-a-2 t c = search needs
 
@@ -171,83 +202,125 @@ concept-add-kind-set t c = omega (arith, named-small _ (c .before .before .befor
 concept-kind-set-requires-2 : (t : ℕ) → concept-lts.Need-kind-set-requires-2 (concept-calls t) (concept-at t) concept.Post
 concept-kind-set-requires-2 t c κs = c .before .before .before .before .before .before .pre .1 .0 .evaluable .index .size
 
-concept-enum-told : (t : ℕ) → concept-lts.Need-enum-told (concept-calls t) (concept-at t) concept.Post
-concept-enum-told t c = search needs
-
-concept-both-requires : (t : ℕ) → concept-lts.Need-both-requires (concept-calls t) (concept-at t) concept.Post
-concept-both-requires t c κs = (omega (arith, c .before .before .before .before .before .pre .0, concept-next (c .before .before .before .before .before .pre .1 .0) (c .before .before .before .before .before .pre .1 .1)), (place-earlier (c .before .before .before .before .before .pre .1 .0) (omega arith), (both-token (c .before .before .before .before .before .pre .1 .0) (c .before .before .before .before .before .pre .1 .1) (sym (c .before .before .token-at .ensures) ∙ c .enum-told .given .1) .last, both-token (c .before .before .before .before .before .pre .1 .0) (c .before .before .before .before .before .pre .1 .1) (sym (c .before .before .token-at .ensures) ∙ c .enum-told .given .1) .first)))
-
 concept-enum-told-2 : (t : ℕ) → concept-lts.Need-enum-told-2 (concept-calls t) (concept-at t) concept.Post
 concept-enum-told-2 t c = search needs
 
-concept-reached-requires : (t : ℕ) → concept-lts.Need-reached-requires (concept-calls t) (concept-at t) concept.Post
-concept-reached-requires t c κs = (omega (arith, c .before .before .before .before .before .pre .0, concept-next (c .before .before .before .before .before .pre .1 .0) (c .before .before .before .before .before .pre .1 .1)), (place-earlier (c .before .before .before .before .before .pre .1 .0) (omega arith), reached-token (c .before .before .before .before .before .pre .1 .0) (c .before .before .before .before .before .pre .1 .1) (sym (c .before .before .token-at .ensures) ∙ c .enum-told2 .given .1) .last))
+concept-both-requires : (t : ℕ) → concept-lts.Need-both-requires (concept-calls t) (concept-at t) concept.Post
+concept-both-requires t c κs =
+    let s = c .before .before .before .before .before in
+    let h = s .pre .1 .1 in
+    let q = sym (c .before .before .token-at .ensures) ∙ c .enum-told2 .given .1 in
+    (omega (arith, s .pre .0, concept-next (s .args .words .now) _ h), (concept-place (s .pre .1 .0) h, (concept-suc (s .args .words .now) _ h, q)))
 
 concept-enum-told-3 : (t : ℕ) → concept-lts.Need-enum-told-3 (concept-calls t) (concept-at t) concept.Post
 concept-enum-told-3 t c = search needs
 
+concept-reached-requires : (t : ℕ) → concept-lts.Need-reached-requires (concept-calls t) (concept-at t) concept.Post
+concept-reached-requires t c κs =
+    let s = c .before .before .before .before .before in
+    let h = s .pre .1 .1 in
+    let q = sym (c .before .before .token-at .ensures) ∙ c .enum-told3 .given .1 in
+    (omega (arith, s .pre .0, concept-next (s .args .words .now) _ h), (concept-place (s .pre .1 .0) h, (concept-suc (s .args .words .now) _ h, q)))
+
+concept-enum-told-4 : (t : ℕ) → concept-lts.Need-enum-told-4 (concept-calls t) (concept-at t) concept.Post
+concept-enum-told-4 t c = search needs
+
 concept-common-requires : (t : ℕ) → concept-lts.Need-common-requires (concept-calls t) (concept-at t) concept.Post
-concept-common-requires t c κs = (omega (arith, c .before .before .before .before .before .pre .0, concept-next (c .before .before .before .before .before .pre .1 .0) (c .before .before .before .before .before .pre .1 .1)), (place-earlier (c .before .before .before .before .before .pre .1 .0) (omega arith), (common-token (c .before .before .before .before .before .pre .1 .0) (c .before .before .before .before .before .pre .1 .1) (sym (c .before .before .token-at .ensures) ∙ c .enum-told3 .given .1) .last, common-token (c .before .before .before .before .before .pre .1 .0) (c .before .before .before .before .before .pre .1 .1) (sym (c .before .before .token-at .ensures) ∙ c .enum-told3 .given .1) .first)))
-
-concept-objects-requires : (t : ℕ) → concept-lts.Need-objects-requires (concept-calls t) (concept-at t) concept.Post
-concept-objects-requires t c κs = search needs
-
-concept-everything-requires : (t : ℕ) → concept-lts.Need-everything-requires (concept-calls t) (concept-at t) concept.Post
-concept-everything-requires t c κs = place-room (c .before .before .before .before .before .pre .1 .0) (c .objects .ensures .value)
+concept-common-requires t c κs =
+    let s = c .before .before .before .before .before in
+    let h = s .pre .1 .1 in
+    let q = sym (c .before .before .token-at .ensures) ∙ c .enum-told4 .given .1 in
+    (omega (arith, s .pre .0, concept-next (s .args .words .now) _ h), (concept-place (s .pre .1 .0) h, (concept-suc (s .args .words .now) _ h, q)))
 
 concept-returns : (t : ℕ) → concept-lts.Need-returns (concept-calls t) (concept-at t) concept.Post
-concept-returns t c = class-put (c .before .before .before .before .before .before .before .pre .1 .0) (c .before .before .before .before .before .before .before .pre .1 .1) (sym (c .before .before .before .before .token-at .ensures) ∙ c .before .before .a .given .1) (c .kind-set .ensures)
+concept-returns t c =
+    let s = c .before .before .before .before .before .before .before in
+    let h = s .pre .1 .1 in
+    let q = sym (c .before .before .before .before .token-at .ensures) ∙ c .before .before .a .given .1 in
+    concept-put (s .pre .1 .0) h (class-selected (concept-place (s .pre .1 .0) h) (concept-token (s .args .words .now) _ h q) (c .kind-set .ensures))
 
 concept-returns-2 : (t : ℕ) → concept-lts.Need-returns-2 (concept-calls t) (concept-at t) concept.Post
-concept-returns-2 t c = constant-put (c .before .before .before .before .before .before .before .pre .1 .0) (c .before .before .before .before .before .before .before .pre .1 .1) (sym (c .before .before .before .before .token-at .ensures) ∙ c .before .before .a2 .given .1) (c .kind-set2 .ensures)
+concept-returns-2 t c =
+    let s = c .before .before .before .before .before .before .before in
+    let h = s .pre .1 .1 in
+    let q = sym (c .before .before .before .before .token-at .ensures) ∙ c .before .before .enum-told .given .1 in
+    concept-put (s .pre .1 .0) h (everything-selected (concept-place (s .pre .1 .0) h) (concept-token (s .args .words .now) _ h q) (c .before .objects .ensures .value) (c .everything .ensures))
 
 concept-returns-3 : (t : ℕ) → concept-lts.Need-returns-3 (concept-calls t) (concept-at t) concept.Post
-concept-returns-3 t c = both-put (c .before .before .before .before .before .before .pre .1 .0) (c .before .before .before .before .before .before .pre .1 .1) (sym (c .before .before .before .token-at .ensures) ∙ c .before .enum-told .given .1) (c .both .ensures)
+concept-returns-3 t c =
+    let s = c .before .before .before .before .before .before .before in
+    let h = s .pre .1 .1 in
+    let q = sym (c .before .before .before .before .token-at .ensures) ∙ c .before .before .a2 .given .1 in
+    concept-put (s .pre .1 .0) h (constant-selected (concept-place (s .pre .1 .0) h) q (concept-token (s .args .words .now) _ h q) (c .kind-set2 .ensures))
 
 concept-returns-4 : (t : ℕ) → concept-lts.Need-returns-4 (concept-calls t) (concept-at t) concept.Post
-concept-returns-4 t c = reached-put (c .before .before .before .before .before .before .pre .1 .0) (c .before .before .before .before .before .before .pre .1 .1) (sym (c .before .before .before .token-at .ensures) ∙ c .before .enum-told2 .given .1) (c .reached .ensures)
+concept-returns-4 t c = concept-put (c .before .before .before .before .before .before .pre .1 .0) (c .before .before .before .before .before .before .pre .1 .1) (c .both .ensures)
 
 concept-returns-5 : (t : ℕ) → concept-lts.Need-returns-5 (concept-calls t) (concept-at t) concept.Post
-concept-returns-5 t c = common-put (c .before .before .before .before .before .before .pre .1 .0) (c .before .before .before .before .before .before .pre .1 .1) (sym (c .before .before .before .token-at .ensures) ∙ c .before .enum-told3 .given .1) (c .common .ensures)
+concept-returns-5 t c = concept-put (c .before .before .before .before .before .before .pre .1 .0) (c .before .before .before .before .before .before .pre .1 .1) (c .reached .ensures)
 
 concept-returns-6 : (t : ℕ) → concept-lts.Need-returns-6 (concept-calls t) (concept-at t) concept.Post
-concept-returns-6 t c = everything-put (c .before .before .before .before .before .before .pre .1 .0) (c .before .before .before .before .before .before .pre .1 .1) (rw (← (c .before .before .before .token-at .ensures)) (c .before .before .match .keys6)) (c .before .objects .ensures .value) (c .everything .ensures)
+concept-returns-6 t c = concept-put (c .before .before .before .before .before .before .pre .1 .0) (c .before .before .before .before .before .before .pre .1 .1) (c .common .ensures)
+
+concept-returns-7 : (t : ℕ) → concept-lts.Need-returns-7 (concept-calls t) (concept-at t) concept.Post
+concept-returns-7 t c = absurd (concept-not-path (c .before .before .before .before .args .words .now) _ (c .before .before .before .before .pre .1 .1) (rw (← (c .before .token-at .ensures)) (c .match .keys7)))
 
 path-sub-at : (t : ℕ) → path-lts.Need-sub-at (path-calls t) (path-at t) path.Post
-path-sub-at t c = omega (arith, path-next (c .before .before .pre .1 .0) (c .before .before .pre .1 .1))
+path-sub-at t c = path-some (c .before .before .args .words .now) _ (c .before .before .pre .1 .1)
 
 path-token-at-requires : (t : ℕ) → path-lts.Need-token-at-requires (path-calls t) (path-at t) path.Post
 path-token-at-requires t c κs = omega (arith, place-few (c .before .before .pre .1 .0))
 
-path-enum-known-p : (t : ℕ) → path-lts.Need-enum-known-p (path-calls t) (path-at t) path.Post
-path-enum-known-p t c = search needs
-
-path-step-requires : (t : ℕ) → path-lts.Need-step-requires (path-calls t) (path-at t) path.Post
-path-step-requires t c κs = (omega (arith, c .before .before .before .before .before .before .before .pre .0, path-next (c .before .before .before .before .before .before .before .pre .1 .0) (c .before .before .before .before .before .before .before .pre .1 .1)), (place-earlier (c .before .before .before .before .before .before .before .pre .1 .0) (omega arith), (step-token (c .before .before .before .before .before .before .before .pre .1 .0) (c .before .before .before .before .before .before .before .pre .1 .1) false (sym (c .before .before .before .before .token-at .ensures) ∙ c .before .before .p .given .1) .last, (step-token (c .before .before .before .before .before .before .before .pre .1 .0) (c .before .before .before .before .before .before .before .pre .1 .1) false (sym (c .before .before .before .before .token-at .ensures) ∙ c .before .before .p .given .1) .first, named-small _ (c .before .before .before .before .before .before .shared-slice-known .given) _ (sym (c .before .before .before .before .token-at .ensures) ∙ c .before .before .p .given .1)))))
-
-path-enum-known-p-2 : (t : ℕ) → path-lts.Need-enum-known-p-2 (path-calls t) (path-at t) path.Post
-path-enum-known-p-2 t c = search needs
-
-path-step-requires-2 : (t : ℕ) → path-lts.Need-step-requires-2 (path-calls t) (path-at t) path.Post
-path-step-requires-2 t c κs = (omega (arith, c .before .before .before .before .before .before .before .pre .0, path-next (c .before .before .before .before .before .before .before .pre .1 .0) (c .before .before .before .before .before .before .before .pre .1 .1)), (place-earlier (c .before .before .before .before .before .before .before .pre .1 .0) (omega arith), (step-token (c .before .before .before .before .before .before .before .pre .1 .0) (c .before .before .before .before .before .before .before .pre .1 .1) true (sym (c .before .before .before .before .token-at .ensures) ∙ c .before .before .p2 .given .1) .last, (step-token (c .before .before .before .before .before .before .before .pre .1 .0) (c .before .before .before .before .before .before .before .pre .1 .1) true (sym (c .before .before .before .before .token-at .ensures) ∙ c .before .before .p2 .given .1) .first, named-small _ (c .before .before .before .before .before .before .shared-slice-known .given) _ (sym (c .before .before .before .before .token-at .ensures) ∙ c .before .before .p2 .given .1)))))
+path-enum-told : (t : ℕ) → path-lts.Need-enum-told (path-calls t) (path-at t) path.Post
+path-enum-told t c = search needs
 
 path-objects-requires : (t : ℕ) → path-lts.Need-objects-requires (path-calls t) (path-at t) path.Post
 path-objects-requires t c κs = search needs
 
 path-identity-requires : (t : ℕ) → path-lts.Need-identity-requires (path-calls t) (path-at t) path.Post
-path-identity-requires t c κs = place-room (c .before .before .before .before .before .before .pre .1 .0) (c .before .objects .ensures .value)
+path-identity-requires t c κs = place-room (c .before .before .before .before .before .before .before .pre .1 .0) (c .before .objects .ensures .value)
+
+path-enum-known-p : (t : ℕ) → path-lts.Need-enum-known-p (path-calls t) (path-at t) path.Post
+path-enum-known-p t c = search needs
+
+path-step-requires : (t : ℕ) → path-lts.Need-step-requires (path-calls t) (path-at t) path.Post
+path-step-requires t c κs =
+    let s = c .before .before .before .before .before .before .before in
+    let h = s .pre .1 .1 in
+    let q = sym (c .before .before .before .before .token-at .ensures) ∙ c .before .before .p .given .1 in
+    (omega (arith, s .pre .0, path-next (s .args .words .now) _ h), (path-place (s .pre .1 .0) h, (path-suc (s .args .words .now) _ h, (q, named-small _ (c .before .before .before .before .before .before .shared-slice-known .given) _ q))))
+
+path-enum-known-p-2 : (t : ℕ) → path-lts.Need-enum-known-p-2 (path-calls t) (path-at t) path.Post
+path-enum-known-p-2 t c = search needs
+
+path-step-requires-2 : (t : ℕ) → path-lts.Need-step-requires-2 (path-calls t) (path-at t) path.Post
+path-step-requires-2 t c κs =
+    let s = c .before .before .before .before .before .before .before in
+    let h = s .pre .1 .1 in
+    let q = sym (c .before .before .before .before .token-at .ensures) ∙ c .before .before .p2 .given .1 in
+    (omega (arith, s .pre .0, path-next (s .args .words .now) _ h), (path-place (s .pre .1 .0) h, (path-suc (s .args .words .now) _ h, (q, named-small _ (c .before .before .before .before .before .before .shared-slice-known .given) _ q))))
 
 path-returns : (t : ℕ) → path-lts.Need-returns (path-calls t) (path-at t) path.Post
-path-returns t c = step-put (c .before .before .before .before .before .before .before .before .pre .1 .0) (c .before .before .before .before .before .before .before .before .pre .1 .1) false (sym (c .before .before .before .before .before .token-at .ensures) ∙ c .before .before .before .p .given .1) (c .step .ensures)
+path-returns t c =
+    let s = c .before .before .before .before .before .before .before .before in
+    let h = s .pre .1 .1 in
+    let q = sym (c .before .before .before .before .before .token-at .ensures) ∙ c .before .before .before .enum-told .given .1 in
+    path-put (s .pre .1 .0) h (empty-related (path-place (s .pre .1 .0) h) (path-token (s .args .words .now) _ h q) (c .before .before .objects .ensures .value) (c .identity .ensures))
 
 path-returns-2 : (t : ℕ) → path-lts.Need-returns-2 (path-calls t) (path-at t) path.Post
-path-returns-2 t c = step-put (c .before .before .before .before .before .before .before .before .pre .1 .0) (c .before .before .before .before .before .before .before .before .pre .1 .1) true (sym (c .before .before .before .before .before .token-at .ensures) ∙ c .before .before .before .p2 .given .1) (c .step2 .ensures)
+path-returns-2 t c = path-put (c .before .before .before .before .before .before .before .before .pre .1 .0) (c .before .before .before .before .before .before .before .before .pre .1 .1) (c .step .ensures)
 
 path-returns-3 : (t : ℕ) → path-lts.Need-returns-3 (path-calls t) (path-at t) path.Post
-path-returns-3 t c = empty-put (c .before .before .before .before .before .before .before .pre .1 .0) (c .before .before .before .before .before .before .before .pre .1 .1) (rw (← (c .before .before .before .before .token-at .ensures)) (c .before .before .before .match .keys3)) (c .before .before .objects .ensures .value) (c .identity .ensures)
+path-returns-3 t c = path-put (c .before .before .before .before .before .before .before .before .pre .1 .0) (c .before .before .before .before .before .before .before .before .pre .1 .1) (c .step2 .ensures)
+
+path-returns-4 : (t : ℕ) → path-lts.Need-returns-4 (path-calls t) (path-at t) path.Post
+path-returns-4 t c = absurd (path-not-concept (c .before .before .before .before .args .words .now) _ (c .before .before .before .before .pre .1 .1) (rw (← (c .before .token-at .ensures)) (c .match .keys4)))
 
 reached-path-requires : (t : ℕ) → reached-lts.Need-path-requires (reached-calls t) (reached-at t) reached.Post
-reached-path-requires t c κs = (omega (arith, c .before .before .before .pre .0), (c .before .before .before .pre .1 .0, c .before .before .before .pre .1 .1))
+reached-path-requires t c κs =
+    let s = c .before .before .before in
+    let r = concept-reads (s .args .words .now) (s .args .at) _ (s .pre .1 .1 .0) (s .pre .1 .1 .1) in
+    (omega (arith, s .pre .0), (place-earlier (s .pre .1 .0) (omega arith), r .2))
 
 reached-slice-aggregate-shared : (t : ℕ) → reached-lts.Need-slice-aggregate-shared (reached-calls t) (reached-at t) reached.Post
 reached-slice-aggregate-shared t c = sym (c .before .path .ensures .relation .size)
@@ -259,16 +332,27 @@ reached-objects-requires : (t : ℕ) → reached-lts.Need-objects-requires (reac
 reached-objects-requires t c κs = search needs
 
 reached-shared-requires : (t : ℕ) → reached-lts.Need-shared-requires (reached-calls t) (reached-at t) reached.Post
-reached-shared-requires t c κs = (omega (arith, place-room (c .before .before .before .before .before .before .before .pre .1 .0) (c .objects .ensures .value), c .before .before .before .path .ensures .relation .size), omega (arith, place-room (c .before .before .before .before .before .before .before .pre .1 .0) (c .objects .ensures .value), c .before .before .before .path .ensures .relation .size))
+reached-shared-requires t c κs =
+    let n = place-room (c .before .before .before .before .before .before .before .pre .1 .0) (c .objects .ensures .value) in
+    (omega (arith, n, c .before .before .before .path .ensures .relation .size), omega (arith, n, c .before .before .before .path .ensures .relation .size))
 
 reached-returns : (t : ℕ) → reached-lts.Need-returns (reached-calls t) (reached-at t) reached.Post
-reached-returns t c = reached-span (c .before .before .before .before .before .before .before .before .pre .1 .0) (c .before .before .before .before .path .ensures) (c .before .objects .ensures .value) (c .shared .ensures)
+reached-returns t c =
+    let s = c .before .before .before .before .before .before .before .before in
+    let r = concept-reads (s .args .words .now) (s .args .at) _ (s .pre .1 .1 .0) (s .pre .1 .1 .1) in
+    reached-selected (s .pre .1 .0) r (c .before .before .before .before .path .ensures) (c .before .objects .ensures .value) (c .shared .ensures)
 
 step-concept-requires : (t : ℕ) → step-lts.Need-concept-requires (step-calls t) (step-at t) step.Post
-step-concept-requires t c κs = (omega (arith, c .before .before .pre .0), (c .before .before .pre .1 .0, c .before .before .pre .1 .1 .0))
+step-concept-requires t c κs =
+    let s = c .before .before in
+    let r = step-reads (s .args .words .now) (s .args .at) (directionOf (s .args .backward)) (s .args .attribute) (s .pre .1 .1 .0) (s .pre .1 .1 .1 .0) in
+    (omega (arith, s .pre .0), (place-earlier (s .pre .1 .0) (omega arith), r .2))
 
 step-path-requires : (t : ℕ) → step-lts.Need-path-requires (step-calls t) (step-at t) step.Post
-step-path-requires t c κs = (omega (arith, c .before .before .before .before .pre .0, c .before .concept .ensures .span .earlier), (place-earlier (c .before .before .before .before .pre .1 .0) (omega (arith, c .before .concept .ensures .span .earlier)), rw (c .before .concept .ensures .span .rest) (c .before .before .before .before .pre .1 .1 .1 .0)))
+step-path-requires t c κs =
+    let s = c .before .before .before .before in
+    let r = step-reads (s .args .words .now) (s .args .at) (directionOf (s .args .backward)) (s .args .attribute) (s .pre .1 .1 .0) (s .pre .1 .1 .1 .0) in
+    (omega (arith, s .pre .0, c .before .concept .ensures .start, start-le (s .args .words .now) (s .args .at) 1), (place-below (s .pre .1 .0) (c .before .concept .ensures .start), rw (c .before .concept .ensures .start) (r .3)))
 
 step-add-t13 : (t : ℕ) → step-lts.Need-add-t13 (step-calls t) (step-at t) step.Post
 step-add-t13 t c = omega (arith, c .before .before .before .before .before .before .pre .1 .1 .1 .1)
@@ -277,7 +361,10 @@ step-advance-requires : (t : ℕ) → step-lts.Need-advance-requires (step-calls
 step-advance-requires t c κs = (c .before .before .before .before .before .concept .ensures .selection .size, (c .before .before .before .path .ensures .relation .size, place-end (c .before .before .before .before .before .before .before .before .pre .1 .0) (c .before .before .before .before .before .before .before .before .args .backward)))
 
 step-returns : (t : ℕ) → step-lts.Need-returns (step-calls t) (step-at t) step.Post
-step-returns t c = step-span (c .before .before .before .before .before .before .before .before .before .pre .1 .0) _ _ (c .before .before .before .before .before .before .concept .ensures) (c .before .before .before .before .path .ensures) (c .advance .ensures)
+step-returns t c =
+    let s = c .before .before .before .before .before .before .before .before .before in
+    let r = step-reads (s .args .words .now) (s .args .at) (directionOf (s .args .backward)) (s .args .attribute) (s .pre .1 .1 .0) (s .pre .1 .1 .1 .0) in
+    step-related (s .pre .1 .0) (s .args .backward) (s .args .attribute) r (c .before .before .before .before .before .before .concept .ensures) (c .before .before .before .before .path .ensures) (c .advance .ensures)
 
 pub +both+common+concept+path+reached+step-spec : {M : Type 1} → statement M
 +both+common+concept+path+reached+step-spec =
@@ -307,37 +394,41 @@ pub +both+common+concept+path+reached+step-spec : {M : Type 1} → statement M
     (concept-token-at-requires t)
     (concept-enum-known-a t)
     (concept-kind-set-requires t)
+    (concept-enum-told t)
+    (concept-objects-requires t)
+    (concept-everything-requires t)
     (concept-enum-known-a-2 t)
     (concept-add-kind-set t)
     (concept-kind-set-requires-2 t)
-    (concept-enum-told t)
-    (concept-both-requires t)
     (concept-enum-told-2 t)
-    (concept-reached-requires t)
+    (concept-both-requires t)
     (concept-enum-told-3 t)
+    (concept-reached-requires t)
+    (concept-enum-told-4 t)
     (concept-common-requires t)
-    (concept-objects-requires t)
-    (concept-everything-requires t)
     (concept-returns t)
     (concept-returns-2 t)
     (concept-returns-3 t)
     (concept-returns-4 t)
     (concept-returns-5 t)
-    (concept-returns-6 t))
+    (concept-returns-6 t)
+    (concept-returns-7 t))
     (λ t. path-lts.spec (path-calls t)
     (path-at t)
     path.Post
     (path-sub-at t)
     (path-token-at-requires t)
+    (path-enum-told t)
+    (path-objects-requires t)
+    (path-identity-requires t)
     (path-enum-known-p t)
     (path-step-requires t)
     (path-enum-known-p-2 t)
     (path-step-requires-2 t)
-    (path-objects-requires t)
-    (path-identity-requires t)
     (path-returns t)
     (path-returns-2 t)
-    (path-returns-3 t))
+    (path-returns-3 t)
+    (path-returns-4 t))
     (λ t. reached-lts.spec (reached-calls t)
     (reached-at t)
     reached.Post
