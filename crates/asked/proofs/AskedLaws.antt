@@ -14,13 +14,12 @@ use Rattle.records.specs.SchemaRecord.{signatureOf}
 use Rattle.records.specs.ConceptRecord.{conceptOf}
 use Rattle.records.specs.Refusal.{steps, refusal-5, refusal-6, AcceptedSchema, AcceptedConcept}
 use Rattle.records.proofs.BoolLaws.{or-false-left}
-use Rattle.records.proofs.AcceptedLaws.{passes-3, passes-5, passes-6, tokens-few, token-in-range}
+use Rattle.records.proofs.AcceptedLaws.{passes-3, passes-5, passes-6, tokens-few, token-in-range, accepted-concept, accepted-steps, accepted-limit}
 use Rattle.records.specs.Steps.{conceptSteps}
 use Rattle.chase.specs.Facts.{Facts}
 use Rattle.chase.specs.Task.{asked, taskOf}
 use Rattle.records.specs.Reading.{startOf, HasConcept}
 use Rattle.chase.specs.QueryTokens.{factsAt}
-use Rattle.chase.proofs.AcceptanceLaws.{accepted-concept, accepted-steps, accepted-limit}
 use Rattle.primary.specs.Asked.{queryTask}
 use Rattle.asked.specs.declared.words.Kind.{Kind}
 use Rattle.asked.specs.declared.words.Kind.the-variants.{Members, Equations, Edges}

@@ -1,28 +1,23 @@
--- Accepted records make a well-formed task within the limits: they name what is declared, and a concept has the steps that its
--- record counts.
-use Prim.Native.Nat.{ℕ, zero, _≤_, _<_}
-use native.Mathlib.Omega.{arith}
-use mathlib.Core.Bool.{false, So, not, _&&_}
+-- Accepted records make a well-formed task within the limits: they name what is declared.
+use Prim.Native.Nat.{ℕ, _≤_, _<_}
+use mathlib.Core.Bool.{false, So, _&&_}
 use mathlib.Core.List.{List}
-use mathlib.Core.Path.{_≡_, ap}
-use lib.Dec.{eqb, ltb}
-use borrow.Author.Tests.{ltb-true, ltb-false, not-false}
+use mathlib.Core.Path.{_≡_}
+use lib.Dec.{ltb}
+use borrow.Author.Tests.{ltb-true}
 use Rattle.records.specs.declared.schema.Axiom.{Axiom}
 use Rattle.records.specs.declared.schema.Axiom.the-variants.{Subclass, Typing, Necessary, Single, Relates}
 use Rattle.records.specs.declared.schema.Signature.{Signature}
-use Rattle.records.specs.Finite.{count}
-use Rattle.records.specs.Layout.{conceptLayout, sizeAt, entries, leftAt, maxClasses, maxAttributes, maxConstants, querySteps, viewSteps}
+use Rattle.records.specs.Layout.{conceptLayout, entries, maxClasses, maxAttributes, maxConstants, querySteps, viewSteps}
 use Rattle.records.specs.SchemaRecord.{signatureOf, schemaOf}
-use Rattle.records.specs.ConceptRecord.{pileAfter, conceptOf}
-use Rattle.records.specs.Refusal.{outside, declares, isConcept, steps, faultyToken, refusal-2, refusal-4, refusal-5, refusal-6, AcceptedSchema, AcceptedConcept}
-use Rattle.records.proofs.AcceptedLaws.{passes-1, passes-2, passes-4, passes-5, passes-6, axiom-declared, token-faultless}
-pub use Rattle.records.proofs.AcceptedLaws.{signature-few as accepted-signature}
+use Rattle.records.specs.ConceptRecord.{conceptOf}
+use Rattle.records.specs.Refusal.{declares, refusal-2, refusal-4, refusal-5, AcceptedSchema, AcceptedConcept}
 use Rattle.records.specs.Steps.{conceptSteps}
+use Rattle.records.proofs.AcceptedLaws.{passes-1, passes-2, passes-4, passes-5, passes-6, axiom-declared, token-suits, accepted-concept, accepted-limit}
+pub use Rattle.records.proofs.AcceptedLaws.{signature-few as accepted-signature}
 use Rattle.chase.specs.Declared.{DeclaredAxiom, Declared}
 use Rattle.chase.specs.Task.{Task, WellFormed, taskOf}
-use Rattle.records.specs.Reading.{startOf, HasConcept, stepNumber}
-use Rattle.chase.proofs.TestLaws.{and-parts, or-false}
-use Rattle.records.proofs.ReadingLaws.{number-concept, whole-concept}
+use Rattle.chase.proofs.TestLaws.{and-parts}
 use Rattle.chase.proofs.DeclaredLaws.{declared-concept}
 
 declares-is : (s : Signature) (x : Axiom) → So (declares s x) → DeclaredAxiom s x
@@ -41,29 +36,9 @@ declares-is s (Relates P A B) h =
     let l = and-parts (ltb P (s .attributes)) (ltb A (s .classes)) (k .0) in
     (ltb-true _ _ (l .0), ltb-true _ _ (l .1), ltb-true _ _ (k .1))
 
--- a concept whose record is not refused for its pile
-module _ (w : List ℕ) (pile : refusal-5 w ≡ false) where
-  pub accepted-concept : HasConcept w (entries conceptLayout w) × (startOf w (entries conceptLayout w) 1 ≡ zero)
-  unfolding refusal-5
-  accepted-concept = whole-concept w (entries conceptLayout w) (not-false (isConcept (pileAfter w (entries conceptLayout w))) pile)
-
-  pub accepted-steps : conceptSteps (conceptOf w) ≡ steps w
-  unfolding conceptOf steps count
-  accepted-steps =
-      let n = entries conceptLayout w in
-      omega (arith, number-concept w n (accepted-concept .0), ap (stepNumber w) (accepted-concept .1))
-
-  pub accepted-limit : (limit : ℕ) → refusal-6 limit w ≡ false → conceptSteps (conceptOf w) ≤ limit
-  unfolding refusal-6
-  accepted-limit limit q =
-      omega (arith, accepted-steps, ltb-false limit (steps w) (or-false (not (eqb (steps w) (sizeAt w 1))) (ltb limit (steps w)) q .1))
-
 pub accepted-declared : (s : Signature) (w : List ℕ) → refusal-4 s w ≡ false → refusal-5 w ≡ false → Declared s (conceptOf w)
-unfolding faultyToken conceptOf
-accepted-declared s w b c =
-    declared-concept w s (entries conceptLayout w)
-    (λ i h. not-false _ (or-false (outside 1 9 (leftAt conceptLayout w i)) _ (token-faultless s w b i h) .1))
-    (accepted-concept w c .0)
+unfolding conceptOf
+accepted-declared s w b c = declared-concept w s (entries conceptLayout w) (token-suits s w b) (accepted-concept w c .0)
 
 pub accepted-axioms : (w : List ℕ) → refusal-2 w ≡ false → (i : ℕ) → i < schemaOf w .axioms
     → DeclaredAxiom (schemaOf w .signature) (schemaOf w .axiomAt i)

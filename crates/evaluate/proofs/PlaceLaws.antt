@@ -13,9 +13,9 @@ use Rattle.records.specs.Layout.{conceptLayout, entries, stateLayout, objectPar
 use Rattle.records.specs.ConceptRecord.{tokenAt, conceptOf}
 use Rattle.records.specs.StateRecord.{objects, stateOf}
 use Rattle.records.specs.Reading.{startOf, HasConcept, HasPath}
-use Rattle.records.proofs.AcceptedLaws.{tokens-few, pile-concept}
+use Rattle.records.proofs.AcceptedLaws.{tokens-few, accepted-concept}
 use Rattle.records.proofs.PileLaws.{start-le}
-use Rattle.records.proofs.ReadingLaws.{Reads, ReadsStep, ReadsPath, concept-next, path-next, whole-concept}
+use Rattle.records.proofs.ReadingLaws.{Reads, ReadsStep, ReadsPath, concept-next, path-next}
 use Rattle.evaluate.specs.declared.items.Found.{Found}
 use Rattle.evaluate.specs.Selection.{Selection, Relation}
 use Rattle.evaluate.specs.Evaluable.{Evaluable}
@@ -143,7 +143,7 @@ module _ {s : Signature} {w v seen : List ℕ} (ok : Evaluable s w v seen) {n : 
   place-last = record { signature = s; evaluable = ok; within = omega arith }
 
   pub concept-last : HasConcept w n
-  concept-last = rw last (whole-concept w (entries conceptLayout w) (pile-concept w (ok .pile)) .0)
+  concept-last = rw last (accepted-concept w (ok .pile) .0)
 
   pub selection-last : {r : Found} → ConceptAt w v n r → Selection (stateOf v) (conceptOf w) (r .set)
   unfolding conceptOf

@@ -5,7 +5,7 @@ use mathlib.Core.List.{List}
 use mathlib.Core.Path.{_≡_}
 use native.Mathlib.Omega.{arith}
 use native.Mathlib.Nat.{le-refl}
-use borrow.Author.Tests.{ltb-true, not-false}
+use borrow.Author.Tests.{ltb-true}
 use lib.Dec.{eqb}
 use lib.ListN.{getD}
 use mir.Syntax.{w16}
@@ -15,9 +15,7 @@ use Rattle.records.specs.declared.concept.Token.{Token}
 use Rattle.records.specs.declared.concept.Token.the-variants.{Class, Everything, Constant, Both, Empty, Forward, Backward, Reached, Common}
 use Rattle.records.specs.Layout.{conceptLayout, entries, leftAt, rightAt}
 use Rattle.records.specs.ConceptRecord.{tokenOf, tokenAt}
-use Rattle.records.specs.Refusal.{outside, suits, faultyToken}
-use Rattle.records.proofs.BoolLaws.{or-false-right}
-use Rattle.records.proofs.AcceptedLaws.{token-faultless}
+use Rattle.records.proofs.AcceptedLaws.{token-suits}
 use Rattle.evaluate.specs.Evaluable.{Evaluable}
 
 -- the number that a token names, 0 where it names none
@@ -56,7 +54,4 @@ named-small w fits i is =
     (omega (arith, named-le (leftAt conceptLayout w i) (rightAt conceptLayout w i), fits (conceptLayout .sizes + entries conceptLayout w + i)))
 
 pub constant-declared : {s : Signature} {w v seen : List ℕ} → Evaluable s w v seen → (i : ℕ) → i < entries conceptLayout w → {a : ℕ} → tokenAt w i ≡ Constant a → a < s .constants
-unfolding faultyToken
-constant-declared {s} {w} ok i l {a} is =
-    ltb-true a (s .constants)
-    (rw is at (not-false (suits s (tokenAt w i) (rightAt conceptLayout w i)) (or-false-right (outside 1 9 (leftAt conceptLayout w i)) _ (token-faultless s w (ok .tokens) i l))))
+constant-declared {s} {w} ok i l {a} is = ltb-true a (s .constants) (rw is at (token-suits s w (ok .tokens) i l))

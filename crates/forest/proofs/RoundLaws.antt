@@ -11,13 +11,12 @@ use Rattle.records.specs.Schema.{Schema}
 use Rattle.records.specs.SchemaRecord.{signatureOf, schemaOf}
 use Rattle.records.specs.ConceptRecord.{conceptOf}
 use Rattle.records.specs.Refusal.{AcceptedSchema, AcceptedConcept}
-use Rattle.records.proofs.AcceptedLaws.{passes-5, passes-6}
+use Rattle.records.proofs.AcceptedLaws.{passes-5, passes-6, accepted-concept, accepted-limit}
 use Rattle.chase.specs.Loops.{upto}
 use Rattle.chase.specs.Ground.{Ground}
 use Rattle.records.specs.Steps.{conceptSteps}
 use Rattle.chase.specs.Forest.{Forest, bare, size, walk, walks}
 use Rattle.records.specs.Reading.{conceptAt, HasConcept}
-use Rattle.chase.proofs.AcceptanceLaws.{accepted-concept, accepted-limit}
 use Rattle.chase.proofs.SizeLaws.{walks-size}
 use Rattle.primary.specs.Formed.{maxNodes}
 use Rattle.ground.specs.Objects.{forestIn, groundIn}

@@ -9,11 +9,11 @@ use lib.ListN.{length, getD}
 use Rattle.records.specs.Layout.{querySteps}
 use Rattle.records.specs.SchemaRecord.{signatureOf, schemaOf}
 use Rattle.records.specs.Refusal.{AcceptedSchema, AcceptedConcept}
-use Rattle.records.proofs.AcceptedLaws.{passes-1, passes-2, passes-4, passes-5, passes-6}
+use Rattle.records.proofs.AcceptedLaws.{passes-1, passes-2, passes-4, passes-5, passes-6, accepted-limit}
 use Rattle.chase.specs.Task.{Task, WellFormed, nodes, asked, taskOf}
 use Rattle.chase.specs.Primary.{Prime, repOf, pass, weight, begin, bound, settled, primary}
 use Rattle.chase.proofs.All.{All, all-unmapped, all-getD}
-use Rattle.chase.proofs.AcceptanceLaws.{accepted-signature, accepted-formed, accepted-limit}
+use Rattle.chase.proofs.AcceptanceLaws.{accepted-signature, accepted-formed}
 use Rattle.chase.proofs.LoopLaws.{grows-le, still}
 use Rattle.chase.proofs.PrimeLaws.{Ok, weight-bound}
 use Rattle.chase.proofs.PrimaryLaws.{within, pass-grows, begin-ok, settled-next, settled-stop}

@@ -1,10 +1,10 @@
 -- What an accepted record gives its readers. Each law takes the answer of the check, or the one refusal that it rests on.
-use Prim.Native.Nat.{ℕ, _+_, _-_, _≤_, _<_}
-use mathlib.Core.Bool.{Bool, true, false, So, cond, _||_}
+use Prim.Native.Nat.{ℕ, zero, _+_, _-_, _≤_, _<_}
+use mathlib.Core.Bool.{Bool, true, false, So, cond, not, _||_}
 use mathlib.Core.List.{List}
-use mathlib.Core.Path.{_≡_, refl}
+use mathlib.Core.Path.{_≡_, refl, ap}
 use native.Mathlib.Omega.{arith}
-use lib.Dec.{ltb}
+use lib.Dec.{eqb, ltb}
 use borrow.Author.Tests.{ltb-true, ltb-false, eqb-true, not-false}
 use Rattle.records.specs.declared.schema.Signature.{Signature}
 use Rattle.records.specs.declared.schema.Axiom.{Axiom}
@@ -15,16 +15,18 @@ use Rattle.records.specs.declared.schema.SchemaAnswer.the-variants as sc
 use Rattle.records.specs.declared.concept.ConceptAnswer.the-variants as concept
 use Rattle.records.specs.declared.state.StateAnswer.the-variants as state
 use Rattle.records.specs.Finite.{any, count}
-use Rattle.records.specs.Layout.{schemaLayout, conceptLayout, stateLayout, entries, leftAt, rightAt, maxClasses, maxAttributes, maxConstants, maxAxioms, maxTokens, maxObjects, maxFacts}
+use Rattle.records.specs.Layout.{schemaLayout, conceptLayout, stateLayout, sizeAt, entries, leftAt, rightAt, maxClasses, maxAttributes, maxConstants, maxAxioms, maxTokens, maxObjects, maxFacts}
 use Rattle.records.specs.SchemaRecord.{signatureOf, schemaOf, axiomKind}
 use Rattle.records.specs.Concept.{Direction, forward, backward}
-use Rattle.records.specs.ConceptRecord.{pileAfter, tokenAt}
+use Rattle.records.specs.ConceptRecord.{tokenAt, conceptOf}
 use Rattle.records.specs.StateRecord.{objects}
-use Rattle.records.specs.Refusal.{misshapen, outside, oversized, declares, faultyAxiom, suits, refusal-1, refusal-2, schemaAnswer, AcceptedSchema, faultyToken, isConcept, refusal-3, refusal-4, refusal-5, refusal-6, conceptAnswer, AcceptedConcept, faultyFact, ascends, descends, namesAt, shares, misnames, refusal-7, refusal-8, refusal-9, refusal-10, stateAnswer, AcceptedState}
-use Rattle.records.specs.Reading.{stepToken}
+use Rattle.records.specs.Refusal.{misshapen, outside, oversized, declares, faultyAxiom, suits, refusal-1, refusal-2, schemaAnswer, AcceptedSchema, faultyToken, steps, refusal-3, refusal-4, refusal-5, refusal-6, conceptAnswer, AcceptedConcept, faultyFact, ascends, descends, namesAt, shares, misnames, refusal-7, refusal-8, refusal-9, refusal-10, stateAnswer, AcceptedState}
+use Rattle.records.specs.Steps.{conceptSteps}
+use Rattle.records.specs.Reading.{startOf, HasConcept, stepToken, stepNumber}
 use Rattle.records.specs.InRange.{AxiomInRange, TokenInRange}
 use Rattle.records.proofs.BoolLaws.{or-false-left, or-false-right, and-map, and-three-map}
 use Rattle.records.proofs.FiniteLaws.{any-none}
+use Rattle.records.proofs.ReadingLaws.{number-concept, whole-concept}
 
 -- The answer "accepted" is given only where no test applies.
 
@@ -115,13 +117,24 @@ pub tokens-few : (w : List ℕ) → refusal-3 w ≡ false → entries conceptLay
 unfolding refusal-3
 tokens-few w e = ltb-false maxTokens (entries conceptLayout w) (or-false-right (ltb (entries conceptLayout w) 1) _ (or-false-left (outside 1 maxTokens (entries conceptLayout w)) _ e))
 
-pub token-faultless : (s : Signature) (w : List ℕ) → refusal-4 s w ≡ false → (i : ℕ) → i < entries conceptLayout w → faultyToken s w i ≡ false
-unfolding refusal-4
-token-faultless s w e = any-none (faultyToken s w) (entries conceptLayout w) e
+pub token-suits : (s : Signature) (w : List ℕ) → refusal-4 s w ≡ false → (i : ℕ) → i < entries conceptLayout w → So (suits s (tokenAt w i) (rightAt conceptLayout w i))
+unfolding refusal-4 faultyToken
+token-suits s w e i l = not-false _ (or-false-right (outside 1 9 (leftAt conceptLayout w i)) _ (any-none (faultyToken s w) (entries conceptLayout w) e i l))
 
-pub pile-concept : (w : List ℕ) → refusal-5 w ≡ false → So (isConcept (pileAfter w (entries conceptLayout w)))
-unfolding refusal-5
-pile-concept w e = not-false _ e
+-- a concept whose record is not refused for its pile ends at the last token, starts at the first, and has the steps counted
+module _ (w : List ℕ) (pile : refusal-5 w ≡ false) where
+  pub accepted-concept : HasConcept w (entries conceptLayout w) × (startOf w (entries conceptLayout w) 1 ≡ zero)
+  unfolding refusal-5
+  accepted-concept = whole-concept w (entries conceptLayout w) (not-false _ pile)
+
+  pub accepted-steps : conceptSteps (conceptOf w) ≡ steps w
+  unfolding conceptOf steps count
+  accepted-steps =
+      omega (arith, number-concept w (entries conceptLayout w) (accepted-concept .0), ap (stepNumber w) (accepted-concept .1))
+
+  pub accepted-limit : (limit : ℕ) → refusal-6 limit w ≡ false → conceptSteps (conceptOf w) ≤ limit
+  unfolding refusal-6
+  accepted-limit limit q = omega (arith, accepted-steps, ltb-false limit (steps w) (or-false-right (not (eqb (steps w) (sizeAt w 1))) (ltb limit (steps w)) q))
 
 pub objects-few : (w : List ℕ) → refusal-7 w ≡ false → objects w ≤ maxObjects
 unfolding refusal-7
@@ -181,9 +194,7 @@ module _ (schema : List ℕ) (ok : AcceptedSchema schema) where
       declares-in-range (signatureOf schema) (few .0) (few .1) (schemaOf schema .axiomAt i) (axiom-declared schema (passes-2 schema ok) i l)
 
   pub token-in-range : (limit : ℕ) (w : List ℕ) → AcceptedConcept limit (signatureOf schema) w → (i : ℕ) → i < entries conceptLayout w → TokenInRange (tokenAt w i)
-  unfolding faultyToken
   token-in-range limit w sound i l =
       let s = signatureOf schema in
       let few = signature-few schema (passes-1 schema ok) in
-      suits-in-range s (few .0) (few .1) (few .2) (tokenAt w i) (rightAt conceptLayout w i)
-      (not-false _ (or-false-right (outside 1 9 (leftAt conceptLayout w i)) _ (token-faultless s w (passes-4 limit s w sound) i l)))
+      suits-in-range s (few .0) (few .1) (few .2) (tokenAt w i) (rightAt conceptLayout w i) (token-suits s w (passes-4 limit s w sound) i l)
