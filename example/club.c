@@ -62,15 +62,17 @@ static void print_facts(const uint16_t *state)
         size_t kind = bikuvoa_fact_kind(state, i), object = bikuvoa_fact_object(state, i);
         if (kind < BIKUVOA_ATTRIBUTE_KINDS)
             printf("  %zu is a %s\n", object, CLASS_NAMES[kind]);
-        else
+        else if (kind < BIKUVOA_CONSTANT_KINDS)
             printf("  %zu %s %zu\n", object, ATTRIBUTE_NAMES[kind - BIKUVOA_ATTRIBUTE_KINDS], bikuvoa_fact_second(state, i));
+        else
+            printf("  %zu is constant %zu\n", object, kind - BIKUVOA_CONSTANT_KINDS);
     }
 }
 
 /* Returns 1 if refused. */
 static int decide(bikuvoa_schema schema, bikuvoa_concept query, bikuvoa_concept view)
 {
-    static uint16_t lent[BIKUVOA_DECIDE_WORDS];
+    static uint16_t lent[BIKUVOA_DECIDE_WORDS]; /* static: for one thread only */
     uint64_t objects, object;
     uint16_t returned = bikuvoa_decide(schema.words, schema.length, query.words, query.length, view.words, view.length, lent,
                                        BIKUVOA_DECIDE_WORDS, &objects, &object);

@@ -54,7 +54,7 @@ static void change(const char *what, bikuvoa_state changed)
 /* The verdict depends on the schema alone and not on the data: a larger store finds it once for each query. */
 static enum bikuvoa_verdict decide(bikuvoa_concept query, bikuvoa_concept view)
 {
-    static uint16_t lent[BIKUVOA_DECIDE_WORDS];
+    static uint16_t lent[BIKUVOA_DECIDE_WORDS]; /* static: for one thread only */
     uint64_t objects, object;
     uint16_t returned = bikuvoa_decide(schema.words, schema.length, query.words, query.length, view.words, view.length, lent,
                                        BIKUVOA_DECIDE_WORDS, &objects, &object);

@@ -196,7 +196,8 @@ uint16_t bikuvoa_decide(const uint16_t *schema, size_t schema_words, const uint1
  *
  * What HELD licenses: the list that the view selects has every object of the query, and may have more. Read it and keep what
  * is in the query. Only if the view is also HELD by the query is the list itself the answer. HELD speaks of legal states
- * alone: the store must keep every axiom true (bikuvoa_legal tells), and its list up to date. */
+ * alone: the store must keep every axiom true at each write, and its list up to date. (bikuvoa_legal tells of states of at most
+ * BIKUVOA_MAX_OBJECTS objects.) */
 enum bikuvoa_verdict { BIKUVOA_HELD = 1, BIKUVOA_OPEN = 2, BIKUVOA_REFUSED = 3 };
 
 /* The verdict of bikuvoa_decide by what it returned and *objects. A pointer, so that the call may stand in the argument:
@@ -322,7 +323,7 @@ BIKUVOA_INLINE void bikuvoa_single(bikuvoa_schema *schema, size_t a, size_t p)
     bikuvoa_axiom(schema, bikuvoa_bytes(BIKUVOA_SINGLE, a), p);
 }
 
-/* Each pair of p goes from an object of a to an object of b. */
+/* Each pair of p goes from an object of a to an object of b. Here the attribute comes first; in bikuvoa_typing the class does. */
 BIKUVOA_INLINE void bikuvoa_relates(bikuvoa_schema *schema, size_t p, size_t a, size_t b)
 {
     bikuvoa_axiom(schema, bikuvoa_bytes(BIKUVOA_RELATES, p), bikuvoa_bytes(a, b));
@@ -374,7 +375,8 @@ BIKUVOA_INLINE void bikuvoa_empty(bikuvoa_concept *c)
     bikuvoa_token(c, BIKUVOA_EMPTY, 0);
 }
 
-/* The last path but for the concept after it, with a step along p, or against p, that lands on that concept. */
+/* Takes the concept on top and the path below it, and puts that path with one step more, along p or against p, that lands on the
+ * concept. */
 BIKUVOA_INLINE void bikuvoa_forward(bikuvoa_concept *c, size_t p)
 {
     bikuvoa_token(c, BIKUVOA_FORWARD, p);
@@ -385,13 +387,13 @@ BIKUVOA_INLINE void bikuvoa_backward(bikuvoa_concept *c, size_t p)
     bikuvoa_token(c, BIKUVOA_BACKWARD, p);
 }
 
-/* The concept of what the last path leads from. */
+/* The objects from which the last path leads to some object. */
 BIKUVOA_INLINE void bikuvoa_reached(bikuvoa_concept *c)
 {
     bikuvoa_token(c, BIKUVOA_REACHED, 0);
 }
 
-/* The concept of what the last two paths lead from to a common object. */
+/* The objects from which the last two paths lead to a common object. */
 BIKUVOA_INLINE void bikuvoa_common(bikuvoa_concept *c)
 {
     bikuvoa_token(c, BIKUVOA_COMMON, 0);

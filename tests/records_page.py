@@ -225,17 +225,18 @@ class Names:
         return f"{x} is a {self.classes[kind]}" if kind < first else f"{x} {self.verb(kind - first)} {right}"
 
 
-def example(schema, query, state, sorts):
+def example(schema, query, view, state, sorts):
     record, meanings = spelled(schema, CODE["BYTE_PART"])
     names = Names(*meanings[:2])
     sizes, entries = split(record, "schema")
     axioms = [names.axiom(*entry) for entry in entries]
     hold("words of schema.bin", record, stored("schema"))
     hold("meaning of schema.bin", meanings[len(sizes):], axioms)
-    record, meanings = spelled(query)
-    sizes, entries = split(record, "concept")
-    hold("words of query.bin", record, stored("query"))
-    hold("meaning of query.bin", meanings[len(sizes):], [names.token(sorts, *entry) for entry in entries])
+    for name, table in (("query", query), ("view", view)):
+        record, meanings = spelled(table)
+        sizes, entries = split(record, "concept")
+        hold(f"words of {name}.bin", record, stored(name))
+        hold(f"meaning of {name}.bin", meanings[len(sizes):], [names.token(sorts, *entry) for entry in entries])
     record, meanings = spelled(state, CODE["OBJECT_PART"])
     sizes, entries = split(record, "state")
     hold("meaning of the state", meanings[len(sizes):], [names.fact(*entry) for entry in entries])

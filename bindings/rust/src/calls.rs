@@ -97,8 +97,9 @@ fn object(number: u64) -> Object {
     Object(number as u16)
 }
 
-/// The same calls on built records. They are refused only where a record was
-/// made for another schema.
+/// The same calls on built records. A record that was made for another schema is
+/// refused only if its numbers do not fit this one; otherwise it is read with
+/// this schema's numbers, and the answer is about something else.
 impl Schema {
     /// The objects of the state that are in the query, ascending. A view may be
     /// asked for as a query.

@@ -34,7 +34,8 @@
 //!
 //! The store must enforce the axioms. Nothing is said of a state that breaks
 //! one, and a list kept for such a state may lack objects. [`Schema::legal`]
-//! tells whether a state obeys them.
+//! tells whether a state obeys them, of up to [`layout::MAX_OBJECTS`] objects; a
+//! larger store checks each write itself.
 //!
 //! # Records
 //!

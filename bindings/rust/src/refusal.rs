@@ -48,35 +48,42 @@ impl Refusal {
         })
     }
 
+    /// The header's text (tests/header.rs holds it to that).
     fn text(self) -> &'static str {
         match self {
             Refusal::BAD_SCHEMA_SHAPE => {
-                "schema: cut off, a size above its limit, or a length that does not fit its axioms"
+                "schema: cut off, a size above its limit, or a length that does not fit the count of axioms"
             }
-            Refusal::BAD_AXIOM => "schema: an axiom of unknown kind, or of what is not declared",
+            Refusal::BAD_AXIOM => {
+                "schema: an axiom of unknown kind, or with a class or attribute that is not declared"
+            }
             Refusal::BAD_CONCEPT_SHAPE => {
-                "concept: cut off, no token or too many, or a length that does not fit its tokens"
+                "query or view: cut off, no token, too many, or a length that does not fit the count of tokens"
             }
             Refusal::BAD_TOKEN => {
-                "concept: a token of unknown sort, of what is not declared, or with an argument \
-                 where it has none"
+                "query or view: a token of unknown sort, or with an argument that is not declared or should be 0"
             }
             Refusal::BAD_PILE => {
-                "concept: a token without what it takes, or not one concept at the end"
+                "query or view: a token without the concepts or paths that it takes, or not one concept at the end"
             }
-            Refusal::BAD_STEPS => "concept: a false count of steps, or more than it may have",
+            Refusal::BAD_STEPS => {
+                "query or view: a false count of steps, or more steps than it may have"
+            }
             Refusal::BAD_STATE_SHAPE => {
-                "state: cut off, a size above its limit, or a length that does not fit its facts"
+                "state: cut off, a size above its limit, or a length that does not fit the count of facts"
             }
             Refusal::BAD_FACT => {
-                "state: a fact of what is not declared, of an object that is not there, or with a \
-                 second object that is no pair"
+                "state: a fact of a kind that is not declared, with an object that is not there, or with a right word that should be 0"
             }
-            Refusal::BAD_ORDER => "state: facts that do not ascend, or a fact twice",
+            Refusal::BAD_ORDER => {
+                "state: facts that do not ascend, or a fact twice"
+            }
             Refusal::BAD_CONSTANTS => {
-                "state: a constant without an object or with several, or two with the same"
+                "state: a declared constant without an object or with several, or two constants with the same object"
             }
-            Refusal::FEW_LENT_WORDS => "too few lent words",
+            Refusal::FEW_LENT_WORDS => {
+                "lent words: too few"
+            }
             // A library later than this crate may have more of them.
             _ => "a refusal that is not known here",
         }

@@ -4,6 +4,21 @@ use bikuvoa::layout::{self, axiom, fact, token, CONCEPT, SCHEMA, STATE};
 use bikuvoa::Refusal;
 use std::collections::BTreeMap;
 
+/// Each refusal by the header's name.
+const REFUSALS: [(&str, Refusal); 11] = [
+    ("BAD_SCHEMA_SHAPE", Refusal::BAD_SCHEMA_SHAPE),
+    ("BAD_AXIOM", Refusal::BAD_AXIOM),
+    ("BAD_CONCEPT_SHAPE", Refusal::BAD_CONCEPT_SHAPE),
+    ("BAD_TOKEN", Refusal::BAD_TOKEN),
+    ("BAD_PILE", Refusal::BAD_PILE),
+    ("BAD_STEPS", Refusal::BAD_STEPS),
+    ("BAD_STATE_SHAPE", Refusal::BAD_STATE_SHAPE),
+    ("BAD_FACT", Refusal::BAD_FACT),
+    ("BAD_ORDER", Refusal::BAD_ORDER),
+    ("BAD_CONSTANTS", Refusal::BAD_CONSTANTS),
+    ("FEW_LENT_WORDS", Refusal::FEW_LENT_WORDS),
+];
+
 /// The macros and enumerators that are plain numbers, without their prefix.
 fn header() -> BTreeMap<String, usize> {
     let path = concat!(env!("CARGO_MANIFEST_DIR"), "/../../include/bikuvoa.h");
@@ -65,19 +80,26 @@ fn the_numbers_are_the_headers() {
     ] {
         same(name, kind.into());
     }
-    for (name, refusal) in [
-        ("BAD_SCHEMA_SHAPE", Refusal::BAD_SCHEMA_SHAPE),
-        ("BAD_AXIOM", Refusal::BAD_AXIOM),
-        ("BAD_CONCEPT_SHAPE", Refusal::BAD_CONCEPT_SHAPE),
-        ("BAD_TOKEN", Refusal::BAD_TOKEN),
-        ("BAD_PILE", Refusal::BAD_PILE),
-        ("BAD_STEPS", Refusal::BAD_STEPS),
-        ("BAD_STATE_SHAPE", Refusal::BAD_STATE_SHAPE),
-        ("BAD_FACT", Refusal::BAD_FACT),
-        ("BAD_ORDER", Refusal::BAD_ORDER),
-        ("BAD_CONSTANTS", Refusal::BAD_CONSTANTS),
-        ("FEW_LENT_WORDS", Refusal::FEW_LENT_WORDS),
-    ] {
+    for (name, refusal) in REFUSALS {
         same(name, refusal.number().into());
+    }
+}
+
+#[test]
+fn the_texts_are_the_headers() {
+    let path = concat!(env!("CARGO_MANIFEST_DIR"), "/../../include/bikuvoa.h");
+    let header = std::fs::read_to_string(path).expect("the header");
+    // Strings that stand on several lines are one, as for the compiler.
+    let parts: Vec<&str> = header.split('"').collect();
+    let mut joined = String::new();
+    for (i, part) in parts.iter().enumerate() {
+        if i % 2 == 1 || !part.trim().is_empty() {
+            joined.push_str(part);
+        }
+    }
+    for (_, refusal) in REFUSALS {
+        let said = refusal.to_string();
+        let (_, text) = said.split_once(": ").expect("a text after the number");
+        assert!(joined.contains(text), "{text}");
     }
 }
