@@ -7,6 +7,8 @@ use Rattle.records.specs.declared.schema.Axiom.{Axiom}
 use Rattle.records.specs.declared.schema.Axiom.the-variants.{Subclass, Typing, Necessary, Single, Relates}
 use Rattle.records.specs.declared.schema.Signature.{Signature}
 use Rattle.records.specs.State.{State, Member, Related}
+use Rattle.records.proofs.NamesLaws.{repeats-none}
+use native.Mathlib.Omega.{arith}
 use Rattle.records.specs.Schema.{Schema, Holds, Legal}
 use Rattle.records.specs.Concept.{Direction, forward, backward, Concept, class, everything, constant, both, reached, common, Path, empty, step}
 use Rattle.records.specs.Semantics.{Steps, In, Leads}
@@ -82,7 +84,8 @@ legal-alike S I J same declared legal =
           record {
             inside = λ a h. to (S .signature) I J same (J .names a)
                 (subst (λ (d : ℕ). d < I .size) (same .names a h) (legal .names .inside a h));
-            apart = λ a b h k q. legal .names .apart a b h k (same .names a h ∙ q ∙ sym (same .names b k));
+            apart = λ a h.
+                repeats-none (J .names) (I .names) a (λ b l q. same .names b (omega arith) ∙ q ∙ sym (same .names a h)) (legal .names .apart a h);
           };
       holds = λ i h. holds-alike (S .signature) I J same (S .axiomAt i) (declared i h) (legal .holds i h);
     }

@@ -3,15 +3,18 @@
 use Prim.Native.Nat.{ℕ, zero, suc, _≤_, _<_}
 use native.Mathlib.Omega.{arith}
 use native.Mathlib.Decide.{decLt}
-use mathlib.Core.Bool.{Bool, true, false, So, cond, false≢true}
-use mathlib.Core.Logic.{⊎-elim}
+use mathlib.Core.Bool.{Bool, true, false, So, cond}
 use mathlib.Core.List.{[]}
+use mathlib.Core.Logic.{⊎-elim}
 use mathlib.Core.Path.{_≡_, refl, sym, ap, subst, _∙_}
 use lib.Dec.{ltb}
 use lib.ListN.{List·getD-eq-default}
-use borrow.Author.Tests.{eqb-true, eq-eqb, lt-ltb, ltb-true}
+use borrow.Author.Tests.{lt-ltb, ltb-true}
 use Rattle.records.specs.Finite.{count}
-use Rattle.records.specs.State.{State, Related}
+use Rattle.records.specs.State.{State, Related, repeats}
+use Rattle.records.proofs.NamesLaws.{repeats-none}
+use Rattle.records.proofs.BoolLaws.{not-both}
+use Rattle.records.proofs.FiniteLaws.{any-none}
 use Rattle.records.specs.Schema.{Schema, Legal}
 use Rattle.records.specs.Semantics.{In}
 use Rattle.records.specs.Subsumption.{Counterexample, Held}
@@ -31,7 +34,7 @@ use Rattle.chase.proofs.ClosingLaws.{pair-kept}
 use Rattle.chase.proofs.Consequence.{Follows, fitting}
 use Rattle.chase.proofs.Extension.{Made}
 use Rattle.chase.proofs.Done.{Done, opened, held}
-use Rattle.chase.proofs.CountLaws.{count-le, any-found, any-of}
+use Rattle.chase.proofs.CountLaws.{count-le, any-found}
 use Rattle.chase.proofs.PrimeLaws.{Ok}
 use Rattle.chase.proofs.PrimaryLaws.{within, Closed, primary-ok, primary-closed}
 use Rattle.chase.proofs.GroundLaws.{Grounded, nodeOf, object-inside, object-set, object-rep, rep-object, grounded}
@@ -77,7 +80,7 @@ module _ (t : Task) (formed : WellFormed t) (G : Ground) (node : ℕ → ℕ) (T
         unnamed = λ a q. let n = names-is a k l q in omega (arith, n .1, ok .constants a (n .0));
       }
 
-  module _ (apart : (a b : ℕ) → a < S .signature .constants → b < S .signature .constants → G .constants a ≡ G .constants b → a ≡ b)
+  module _ (apart : (a : ℕ) → a < S .signature .constants → repeats (G .constants) a ≡ false)
       (embeds : In (candidateOf S G T) (t .query) (G .start)) (cov : (p : ℕ) → p < G .objects → Cov S G T (t .view) p []) where
     done : Done t F (lacks S G T) (G .objects) (size G T) (G .start) node
     done =
@@ -85,7 +88,8 @@ module _ (t : Task) (formed : WellFormed t) (G : Ground) (node : ℕ → ℕ) (T
           constants =
               record {
                 inside = λ a h. omega (arith, names-of a h, ok .constants a h, ground-size G T, room S G T);
-                apart = λ a b h k q. apart a b h k (sym (names-of a h) ∙ q ∙ names-of b k);
+                apart = λ a h.
+                    repeats-none (F .names) (G .constants) a (λ b l q. sym (names-of b (omega arith)) ∙ q ∙ names-of a h) (apart a h);
               };
           closes = closing-room t formed G node T ok valid;
           chased = candidate-chased t formed G node T ok valid;
@@ -164,35 +168,17 @@ module _ (t : Task) (formed : WellFormed t) (x : Prime) (ok : Ok t x) (closed : 
   embeds = meets-in (t .schema .signature) (suc (conceptSteps (t .query))) K (objectOf x) assigns (t .query) (startNode t) zero
       (formed .query) meets
 
--- two declared constants with one representative
-clash-is : (t : Task) → So (clash t)
-    → (a b : ℕ) × (a < b) × (b < t .schema .signature .constants)
-    × (repOf (primary t) (constantNode t a) ≡ repOf (primary t) (constantNode t b))
-unfolding clash
-clash-is t c =
-    let y = any-found _ (t .schema .signature .constants) c in
-    let z = any-found _ (y .0) (y .2) in
-    (z .0, y .0, z .1, y .1, eqb-true _ _ (z .2))
-
-clash-of : (t : Task) (a b : ℕ) → a < b → b < t .schema .signature .constants
-    → repOf (primary t) (constantNode t a) ≡ repOf (primary t) (constantNode t b) → So (clash t)
-unfolding clash
-clash-of t a b h k e = any-of _ (t .schema .signature .constants) b k (any-of _ b a h (eq-eqb _ _ e))
+-- the representative of each constant's node
+abbrev repAt : Task → ℕ → ℕ
+repAt t a = repOf (primary t) (constantNode t a)
 
 module _ (t : Task) (formed : WellFormed t) where
-  constants-apart : clash t ≡ false → (a b : ℕ) → a < t .schema .signature .constants → b < t .schema .signature .constants
-      → ground t .constants a ≡ ground t .constants b → a ≡ b
-  unfolding ground groundOf
-  constants-apart n a b h k q =
-      let e = object-rep t (primary t) (primary-ok t formed) (constantNode t a) (constantNode t b) (omega arith) (omega arith) q in
-      elim (decLt a b) [
-        | yes y ↦ absurd (false≢true (sym n ∙ clash-of t a b y k e))
-        | no y ↦
-            elim (decLt b a) [
-              | yes z ↦ absurd (false≢true (sym n ∙ clash-of t b a z h (sym e)))
-              | no z ↦ omega arith
-            ]
-      ]
+  constants-apart : clash t ≡ false → (a : ℕ) → a < t .schema .signature .constants → repeats (ground t .constants) a ≡ false
+  unfolding clash ground groundOf
+  constants-apart n a h =
+      repeats-none (ground t .constants) (repAt t) a
+      (λ b l q. object-rep t (primary t) (primary-ok t formed) (constantNode t b) (constantNode t a) (omega arith) (omega arith) q)
+      (any-none (repeats (repAt t)) (t .schema .signature .constants) n a h)
 
   pub ground-is : Grounded t (ground t) (nodeOf t (primary t))
   unfolding ground
@@ -215,16 +201,18 @@ module _ (t : Task) (formed : WellFormed t) where
 
   -- no legal state has an object in a query that makes two constants one
   pub clash-held : So (clash t) → Held (t .schema) (t .query) (t .view)
+  unfolding clash
   clash-held c = λ I legal d h q.
       let w = fitting t formed I legal d h q in
       let g = w .0 in
-      let k = clash-is t c in
+      let k = any-found (repeats (repAt t)) (t .schema .signature .constants) c in
       let same : (n : ℕ) → n < nodes t → g n ≡ g (repOf (primary t) n) = primary-ok t formed .same I g (w .1) in
-      let e : I .names (k .0) ≡ I .names (k .1)
-      = sym (w .1 .assigns .constants (k .0) (omega (arith, k .2, k .3))) ∙ same (constantNode t (k .0))
-      (omega (arith, k .2, k .3)) ∙ ap g (k .4)
-      ∙ sym (same (constantNode t (k .1)) (omega (arith, k .3))) ∙ w .1 .assigns .constants (k .1) (k .3) in
-      absurd (omega (arith, legal .names .apart (k .0) (k .1) (omega (arith, k .2, k .3)) (k .3) e, k .2))
+      let named : (b : ℕ) → b < t .schema .signature .constants → I .names b ≡ g (repAt t b) =
+      λ b l. sym (w .1 .assigns .constants b l) ∙ same (constantNode t b) (omega arith) in
+      absurd
+      (not-both _ (k .2)
+      (repeats-none (repAt t) (I .names) (k .0) (λ b l e. named b (omega (arith, k .1)) ∙ ap g e ∙ sym (named (k .0) (k .1)))
+      (legal .names .apart (k .0) (k .1))))
 
   pub says-held : In (candidate t) (t .view) (first t) → Held (t .schema) (t .query) (t .view)
   says-held x = go (clash t) refl

@@ -49,7 +49,7 @@ module _ (F : State) (lack : ℕ → ℕ → Bool) (u : ℕ) where
   closed-holds has (Relates P A B) c = λ d hd e he x.
       ⊎-elim (c .0 d hd e he) (λ l. (c .1 d hd (l .0), subst (Member F B) (sym (l .1)) (c .2))) (pair-cases P d e x)
 
-pub closed-legal : (S : Schema) (F : State) (lack : ℕ → ℕ → Bool) (u : ℕ) → Names (S .signature .constants) F
+pub closed-legal : (S : Schema) (F : State) (lack : ℕ → ℕ → Bool) (u : ℕ) → Names (S .signature) F
     → ((P d : ℕ) → d < F .size → So (lack P d) → u < F .size)
     → ((i : ℕ) → i < S .axioms → Chased F lack u (S .axiomAt i)) → Legal S (closed F lack u)
 closed-legal S F lack u names has chased =

@@ -19,7 +19,7 @@ use Rattle.chase.proofs.Extension.{Made, hom-part, extend-all}
 
 pub record Done (t : Task) (F : State) (lack : ℕ → ℕ → Bool) (m u start : ℕ) (node : ℕ → ℕ) : Type 0 where
   -- legality
-  pub constants : Names (t .schema .signature .constants) F
+  pub constants : Names (t .schema .signature) F
   pub closes : (P d : ℕ) → d < F .size → So (lack P d) → u < F .size
   pub chased : (i : ℕ) → i < t .schema .axioms → Chased F lack u (t .schema .axiomAt i)
   -- the primary part

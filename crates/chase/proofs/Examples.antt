@@ -18,6 +18,7 @@ use Rattle.records.specs.Subsumption.{Held, Open}
 use Rattle.chase.specs.Declared.{DeclaredAxiom}
 use Rattle.chase.specs.Task.{Task, WellFormed, asked}
 use Rattle.chase.specs.Primary.{repOf, setOf, add, join, merge, begin, settled, primary, clash}
+use Rattle.records.specs.State.{repeats}
 use Rattle.chase.specs.Ground.{live, objectOf, listing, groundOf, ground}
 use Rattle.chase.specs.Forest.{size, kid, parent, asks, classesOf, lacks, make, makeFor, walks}
 use Rattle.chase.specs.Candidate.{links, lacking, objects, forest, candidate, first}
@@ -122,7 +123,7 @@ agrees (r ∷ l) = Bool·beq (verdict record { schema = r .schema; query = r .qu
 
 -- to unfold this is to unfold the whole model
 model : Unit {0}
-unfolding verdict clash primary settled begin settle upto each repOf setOf add join merge asked raise collect has meets place
+unfolding verdict clash repeats primary settled begin settle upto each repOf setOf add join merge asked raise collect has meets place
     needs isSingle closure image ground groundOf live objectOf listing count any forest walks makeFor make lacks kid parent size
     asks anyOf classesOf full links lacking objects
 model = tt

@@ -8,15 +8,16 @@ use mathlib.Core.List.{List}
 use mathlib.Core.Path.{_≡_, sym, ap, subst, subst₂, _∙_}
 use lib.Dec.{eqb, ltb}
 use lib.ListN.{length, getD}
-use borrow.Author.Tests.{eq-eqb, eqb-true, ne-eqb, lt-ltb, le-ltb, le-leb, lt-leb}
+use borrow.Author.Tests.{eq-eqb, eqb-true, lt-ltb, le-ltb, le-leb, lt-leb}
 use Rattle.records.specs.declared.schema.Signature.{Signature}
 use Rattle.records.specs.Finite.{count}
 use Rattle.records.specs.Layout.{stateLayout, entries, lengthFor, maxClasses, maxAttributes, maxConstants, maxObjects, maxFacts, objectPart, attributeKinds, constantKinds, factKinds}
 use Rattle.records.specs.State.{State, Member, Related, Names}
 use Rattle.records.specs.StateRecord.{objects, kindAt, objectAt, stateOf}
-use Rattle.records.specs.Refusal.{misshapen, declaresKind, suitsKind, faultyFact, ascends, descends, namesAt, shares, misnames, refusal-7, refusal-8, refusal-9, refusal-10, AcceptedState}
+use Rattle.records.specs.Refusal.{misshapen, declaresKind, suitsKind, faultyFact, ascends, descends, namesAt, misnames, refusal-7, refusal-8, refusal-9, refusal-10, AcceptedState}
 use Rattle.records.proofs.BoolLaws.{and-both, or-left, or-right}
 use Rattle.records.proofs.FiniteLaws.{none-any}
+use Rattle.records.proofs.NamesLaws.{repeats-none}
 use Rattle.records.proofs.RefusalLaws.{state-accepted}
 use Rattle.records.proofs.StateScanLaws.{name-is}
 use Rattle.chase.specs.Written.{wordPart, fact, leftWord, rightWord, nameFact, stateRecord}
@@ -74,7 +75,7 @@ sound-of s n k d r h j kind object right =
       right = subst₂ (λ (x y : ℕ). So (suitsKind n x y)) (sym p) (sym u) right;
     }
 
-module _ (s : Signature) (I : State) (l : List ℕ) (limits : Limited s I l) (names : Names (s .constants) I)
+module _ (s : Signature) (I : State) (l : List ℕ) (limits : Limited s I l) (names : Names s I)
     (lists : Lists s I l) where
   abbrev w : List ℕ
   w = stateRecord (I .size) l
@@ -197,9 +198,7 @@ module _ (s : Signature) (I : State) (l : List ℕ) (limits : Limited s I l) (na
   unfolding refusal-10
   constants = none-any (misnames w) (s .constants) λ a h.
       rw (eq-eqb (count (entries stateLayout w) (namesAt w a)) 1 (names-once a h))
-      (none-any (shares w a) a λ b k.
-      ne-eqb (stateOf w .names b) (stateOf w .names a)
-      (λ q. omega (arith, names .apart b a (omega arith) h (sym (list-names b (omega arith)) ∙ q ∙ list-names a h))))
+      (repeats-none (stateOf w .names) (I .names) a (λ b k q. sym (list-names b (omega arith)) ∙ q ∙ list-names a h) (names .apart a h))
 
   pub list-accepted : AcceptedState s w
   list-accepted = sym (state-accepted s w shape faultless order constants)

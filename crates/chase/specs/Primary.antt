@@ -7,6 +7,7 @@ use lib.Dec.{eqb, ltb}
 use lib.Bits.{bitOr}
 use lib.ListN.{getD, set, replicate}
 use Rattle.records.specs.Finite.{any}
+use Rattle.records.specs.State.{repeats}
 use Rattle.records.specs.Schema.{Schema}
 use Rattle.chase.specs.Loops.{each, upto, settle}
 use Rattle.chase.specs.ClassSet.{place}
@@ -120,6 +121,4 @@ primary t = settled t (begin t)
 
 -- two declared constants are one object
 unfoldable pub clash : Task → Bool
-clash t =
-    any (t .schema .signature .constants) λ b.
-    any b λ a. eqb (repOf (primary t) (constantNode t a)) (repOf (primary t) (constantNode t b))
+clash t = any (t .schema .signature .constants) (repeats λ a. repOf (primary t) (constantNode t a))

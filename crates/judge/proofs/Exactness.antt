@@ -24,7 +24,7 @@ use Rattle.records.specs.Semantics.{In}
 use Rattle.records.specs.Subsumption.{Counterexample}
 use Rattle.records.specs.Executable.{isIn, holds, firstBroken}
 use Rattle.records.specs.StateRecord.{objects, stateOf}
-use Rattle.records.specs.Refusal.{namesAt, shares, misnames, refusal-10, AcceptedState}
+use Rattle.records.specs.Refusal.{namesAt, misnames, refusal-10, AcceptedState}
 use Rattle.records.proofs.BoolLaws.{or-false-right, false-of, not-of-false}
 use Rattle.records.proofs.FiniteLaws.{any-found, any-none, count-found, least-le, least-passes, least-first, least-is}
 use Rattle.records.proofs.ExecutableLaws.{isIn-iff, holds-iff, first-broken-none, first-broken-at, first-broken-before}
@@ -52,30 +52,17 @@ module _ (s : Signature) (w : List ℕ) (fine : AcceptedState s w) where
       let inside = fact-object s w i (fact-faultless s w (passes-8 s w fine) i l) in
       omega (arith, name-is w a once i l e inside, inside)
 
-  different : (a b : ℕ) → a < s .constants → b < a → stateOf w .names b ≡ stateOf w .names a → ⊥
-  unfolding refusal-10
-  different a b h l e =
-      false≢true
-      (sym (any-none (shares w a) a (or-false-right (not (eqb (count (entries stateLayout w) (namesAt w a)) 1)) (any a (shares w a)) (any-none (misnames w) (s .constants) (passes-10 s w fine) a h)) b l)
-      ∙ eq-eqb _ _ e)
-
-  pub accepted-names : Names (s .constants) (stateOf w)
-  unfolding stateOf
+  pub accepted-names : Names s (stateOf w)
+  unfolding stateOf refusal-10
   accepted-names =
       record {
         inside = named;
-        apart = λ a b h k e.
-            elim (decLt a b) [
-              | yes l ↦ absurd (different b a k l e)
-              | no l ↦
-                  elim (decLt b a) [
-                    | yes m ↦ absurd (different a b h m (sym e))
-                    | no m ↦ omega arith
-                  ]
-            ];
+        apart = λ a h.
+            or-false-right (not (eqb (count (entries stateLayout w) (namesAt w a)) 1)) _
+            (any-none (misnames w) (s .constants) (passes-10 s w fine) a h);
       }
 
-module _ (S : Schema) (I : State) (names : Names (S .signature .constants) I) where
+module _ (S : Schema) (I : State) (names : Names (S .signature) I) where
   -- no axiom is broken in a legal state, and a state with no broken axiom is legal
   pub unbroken-legal : firstBroken S I ≡ S .axioms → Legal S I
   unbroken-legal e = record { names = names; holds = first-broken-none S I e }

@@ -14,7 +14,7 @@ use Rattle.chase.specs.Task.{Task, nodes}
 use Rattle.records.specs.Steps.{conceptSteps}
 use Rattle.chase.specs.Primary.{Prime, repOf, numbersFrom, begin, primary, clash}
 use Rattle.primary.specs.Formed.{prime}
-use Rattle.primary.specs.Clash.{clashesWith, clashesIn}
+use Rattle.primary.specs.Clash.{clashesIn}
 
 -- f 0, f 1, .. (n numbers)
 module _ (f : ℕ → ℕ) where
@@ -61,6 +61,6 @@ begin-is t r s n h p q =
 
 pub clash-is : (t : Task) (r s : List ℕ) → prime r s ≡ primary t
     → clashesIn r (suc (conceptSteps (t .query))) (t .schema .signature .constants) ≡ clash t
-unfolding clash clashesIn clashesWith repOf
+unfolding clash repOf
 clash-is t r s e =
     ap (λ (x : Prime). clashesIn (x .reps) (suc (conceptSteps (t .query))) (t .schema .signature .constants)) e

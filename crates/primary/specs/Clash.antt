@@ -2,15 +2,13 @@
 use Prim.Native.Nat.{ℕ, _+_}
 use mathlib.Core.Bool.{Bool}
 use mathlib.Core.List.{List}
-use lib.Dec.{eqb}
 use lib.ListN.{getD}
 use Rattle.records.specs.Finite.{any}
+use Rattle.records.specs.State.{repeats}
 
-abbrev pub sameRep : List ℕ → ℕ → ℕ → ℕ → Bool
-sameRep reps first b a = eqb (getD reps (first + a) 0) (getD reps (first + b) 0)
+-- the representative of constant a's node
+abbrev pub repAt : List ℕ → ℕ → ℕ → ℕ
+repAt reps first a = getD reps (first + a) 0
 
-unfoldable pub clashesWith : List ℕ → ℕ → ℕ → Bool
-clashesWith reps first b = any b (sameRep reps first b)
-
-unfoldable pub clashesIn : List ℕ → ℕ → ℕ → Bool
-clashesIn reps first constants = any constants (clashesWith reps first)
+abbrev pub clashesIn : List ℕ → ℕ → ℕ → Bool
+clashesIn reps first constants = any constants (repeats (repAt reps first))

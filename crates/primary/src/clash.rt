@@ -2,12 +2,13 @@
 ghost use mathlib.Core.Path.{_≡_};
 ghost use Prim.Native.Nat.{_+_, _<_, _≤_};
 ghost use lib.ListN.{length};
-ghost use Rattle.primary.specs.Clash.{clashesWith, clashesIn};
+ghost use Rattle.primary.specs.Clash.{repAt, clashesIn};
+ghost use Rattle.records.specs.State.{repeats};
 
 // An earlier constant is one object with constant `b`.
 fn clashes_with(reps: &[u32], first: usize, b: usize) -> bool
     requires { ⌜ first + b < length (now reps) ⌝ }
-    ensures { λ r. ⌜ r ≡ clashesWith (now (reps .entry)) first b ⌝ }
+    ensures { λ r. ⌜ r ≡ repeats (repAt (now (reps .entry)) first) b ⌝ }
 {
     let mut found = false;
     for a in 0..b {

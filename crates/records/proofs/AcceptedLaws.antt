@@ -14,13 +14,14 @@ use Rattle.records.specs.declared.concept.Token.the-variants.{Class, Eve
 use Rattle.records.specs.declared.schema.SchemaAnswer.the-variants as schema
 use Rattle.records.specs.declared.concept.ConceptAnswer.the-variants as concept
 use Rattle.records.specs.declared.state.StateAnswer.the-variants as state
-use Rattle.records.specs.Finite.{any, count}
+use Rattle.records.specs.Finite.{count}
 use Rattle.records.specs.Layout.{schemaLayout, conceptLayout, stateLayout, sizeAt, entries, leftAt, rightAt, maxClasses, maxAttributes, maxConstants, maxAxioms, maxTokens, maxObjects, maxFacts}
 use Rattle.records.specs.SchemaRecord.{signatureOf, schemaOf, axiomKind}
 use Rattle.records.specs.Concept.{Direction, forward, backward}
 use Rattle.records.specs.ConceptRecord.{tokenAt, conceptOf}
-use Rattle.records.specs.StateRecord.{objects}
-use Rattle.records.specs.Refusal.{misshapen, outside, oversized, declares, faultyAxiom, suits, refusal-1, refusal-2, schemaAnswer, AcceptedSchema, faultyToken, steps, refusal-3, refusal-4, refusal-5, refusal-6, conceptAnswer, AcceptedConcept, faultyFact, ascends, descends, namesAt, shares, misnames, refusal-7, refusal-8, refusal-9, refusal-10, stateAnswer, AcceptedState}
+use Rattle.records.specs.StateRecord.{objects, stateOf}
+use Rattle.records.specs.State.{repeats}
+use Rattle.records.specs.Refusal.{misshapen, outside, oversized, declares, faultyAxiom, suits, refusal-1, refusal-2, schemaAnswer, AcceptedSchema, faultyToken, steps, refusal-3, refusal-4, refusal-5, refusal-6, conceptAnswer, AcceptedConcept, faultyFact, ascends, descends, namesAt, misnames, refusal-7, refusal-8, refusal-9, refusal-10, stateAnswer, AcceptedState}
 use Rattle.records.specs.Steps.{conceptSteps}
 use Rattle.records.specs.Reading.{startOf, HasConcept, stepToken, stepNumber}
 use Rattle.records.specs.InRange.{AxiomInRange, TokenInRange}
@@ -154,7 +155,7 @@ fact-ascends w e i l = not-false _ (any-none (descends w) (entries stateLayout w
 
 pub constant-once : (s : Signature) (w : List ℕ) → refusal-10 s w ≡ false → (a : ℕ) → a < s .constants → count (entries stateLayout w) (namesAt w a) ≡ 1
 unfolding refusal-10
-constant-once s w e a l = eqb-true (count (entries stateLayout w) (namesAt w a)) 1 (not-false _ (or-false-left _ (any a (shares w a)) (any-none (misnames w) (s .constants) e a l)))
+constant-once s w e a l = eqb-true (count (entries stateLayout w) (namesAt w a)) 1 (not-false _ (or-false-left _ (repeats (stateOf w .names) a) (any-none (misnames w) (s .constants) e a l)))
 
 -- What an accepted record names is below the limits.
 

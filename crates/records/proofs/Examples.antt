@@ -2,15 +2,16 @@
 -- What a row says (True) is stated with the types of Semantics.antt and Schema.antt. A test that computes (passes)
 -- implies it, so one computation proves the whole table: every row passes.
 use Prim.Native.Nat.{ℕ, _+_, _*_, _<_}
-use mathlib.Core.Bool.{Bool, true, false, So, _&&_, _||_, Bool·beq, false≢true}
+use mathlib.Core.Bool.{Bool, true, false, So, not, _&&_, _||_, Bool·beq, false≢true}
 use mathlib.Core.List.{List, [], _∷_, List·Memᴰ, List·Memᴰ·not-nil, List·Memᴰ·cases-cons}
 use mathlib.Core.Logic.{_↔_, Iff·trans, Iff·symm, ⊎-elim}
 use mathlib.Core.Path.{_≡_, refl}
 use native.Mathlib.Omega.{arith}
 use lib.Dec.{eqb, ltb}
-use borrow.Author.Tests.{ltb-true, eqb-true, eq-eqb}
+use borrow.Author.Tests.{ltb-true, eqb-true}
 use Rattle.records.specs.Finite.{all, any, count, least}
-use Rattle.records.specs.State.{State, Names}
+use Rattle.records.specs.declared.schema.Signature.{Signature}
+use Rattle.records.specs.State.{State, repeats, Names}
 use Rattle.records.specs.Schema.{Schema, Holds, Legal}
 use Rattle.records.specs.Concept.{Concept}
 use Rattle.records.specs.Semantics.{In, Selects}
@@ -19,10 +20,10 @@ use Rattle.records.specs.SchemaRecord.{signatureOf, axiomKind, axiomOf, 
 use Rattle.records.specs.ConceptRecord.{tokenOf, tokenAt, pileAfter, conceptOf}
 use Rattle.records.specs.StateRecord.{objects, kindAt, objectAt, says, saysPair, stateOf}
 use Rattle.records.specs.Refusal.{misshapen, refusal-1, faultyAxiom, refusal-2, schemaAnswer, schemaNumber, refusal-3, faultyToken, refusal-4, refusal-5, steps, refusal-6, conceptAnswer, conceptNumber, refusal-7, faultyFact, refusal-8, ascends, refusal-9, refusal-10, stateAnswer, stateNumber}
-use Rattle.records.specs.Executable.{isIn, implies, firstBroken}
-use Rattle.records.proofs.BoolLaws.{or-true-cases, and-map, and-three-map, same-iff}
-use Rattle.records.proofs.FiniteLaws.{all-at, all-iff}
-use Rattle.records.proofs.ExecutableLaws.{eqb-iff, implies-iff, isIn-iff, first-broken-none, first-broken-at, first-broken-before}
+use Rattle.records.specs.Executable.{isIn, firstBroken}
+use Rattle.records.proofs.BoolLaws.{or-true-cases, false-of-not, and-map, and-three-map, same-iff}
+use Rattle.records.proofs.FiniteLaws.{all-at}
+use Rattle.records.proofs.ExecutableLaws.{isIn-iff, first-broken-none, first-broken-at, first-broken-before}
 
 -- Rows.
 
@@ -149,24 +150,23 @@ exactly-true I C objects e d =
     (λ s. same (s .0) .0 (s .1), λ h. (t .1 d h, same (t .1 d h) .1 h))
 
 -- the constants name objects, different ones
-named : ℕ → State → Bool
-named n I =
-    all n (λ a. ltb (I .names a) (I .size)) && all n λ a. all n λ b. implies (eqb (I .names a) (I .names b)) (eqb a b)
+named : Signature → State → Bool
+named s I = all (s .constants) (λ a. ltb (I .names a) (I .size)) && all (s .constants) λ a. not (repeats (I .names) a)
 
-named-true : (n : ℕ) (I : State) → So (named n I) → Names n I
+named-true : (s : Signature) (I : State) → So (named s I) → Names s I
 unfolding named
-named-true n I e =
-    let t = and-map (all-at _ n) (all-iff (λ a. all-iff λ b. implies-iff (eqb-iff a b)) .0) e in
-    record { inside = λ a l. ltb-true _ _ (t .0 a l); apart = λ a b l m q. t .1 a l b m (eq-eqb _ _ q) }
+named-true s I e =
+    let t = and-map (all-at _ (s .constants)) (all-at _ (s .constants)) e in
+    record { inside = λ a l. ltb-true _ _ (t .0 a l); apart = λ a l. false-of-not _ (t .1 a l) }
 
 deserves : Schema → State → Verdict → Bool
-deserves S I legal = named (S .signature .constants) I && eqb (firstBroken S I) (S .axioms)
+deserves S I legal = named (S .signature) I && eqb (firstBroken S I) (S .axioms)
 deserves S I (broken k) = ltb k (S .axioms) && eqb (firstBroken S I) k
 
 deserves-true : (S : Schema) (I : State) (v : Verdict) → So (deserves S I v) → Deserves S I v
 unfolding deserves
 deserves-true S I legal e =
-    let t = and-map (named-true (S .signature .constants) I) (eqb-true (firstBroken S I) (S .axioms)) e in
+    let t = and-map (named-true (S .signature) I) (eqb-true (firstBroken S I) (S .axioms)) e in
     record { names = t .0; holds = first-broken-none S I (t .1) }
 deserves-true S I (broken k) e =
     let t = and-map (ltb-true k (S .axioms)) (eqb-true (firstBroken S I) k) e in
@@ -205,7 +205,7 @@ allPass-true (x ∷ rows) e r m =
 
 table-passes : So (allPass table)
 unfolding
-    allPass passes accepts exactly below deserves named all any count least
+    allPass passes accepts exactly below deserves named repeats all any count least
     schemaLayout conceptLayout stateLayout sizeAt entries leftAt rightAt lengthFor
     signatureOf axiomKind axiomOf schemaOf tokenOf tokenAt pileAfter conceptOf objects kindAt objectAt says saysPair stateOf
     misshapen refusal-1 faultyAxiom refusal-2 schemaAnswer

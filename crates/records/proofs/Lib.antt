@@ -2,6 +2,7 @@
 pub mod BoolLaws
 pub mod FiniteLaws
 pub mod ExecutableLaws
+pub mod NamesLaws
 pub mod RefusalLaws
 pub mod OutcomeLaws
 pub mod AcceptedLaws

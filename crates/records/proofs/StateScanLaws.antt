@@ -17,8 +17,9 @@ use Rattle.records.specs.declared.schema.Signature.{Signature}
 use Rattle.records.specs.Finite.{any, all, count}
 use Rattle.records.specs.Layout.{stateLayout, entries, constantKinds, factKinds, attributeKinds, rightAt}
 use Rattle.records.specs.StateRecord.{kindAt, objectAt, objects, says, stateOf}
-use Rattle.records.specs.Refusal.{ascends, descends, faultyFact, declaresKind, namesAt, shares, misnames, refusal-8, refusal-9, refusal-10}
-use Rattle.records.specs.Scan.{followsAt, slotOf, sameObject, repeatsIn, misnamedAt, misnamed}
+use Rattle.records.specs.Refusal.{ascends, descends, faultyFact, declaresKind, namesAt, misnames, refusal-8, refusal-9, refusal-10}
+use Rattle.records.specs.Scan.{followsAt, slotOf, namedIn, misnamedAt, misnamed}
+use Rattle.records.specs.State.{sameAs, repeats}
 use Rattle.records.proofs.BoolLaws.{or-false-left, or-false-right, or-left, or-true-cases, and-left, and-right, and-both, not-both, false-of, and-iff}
 use Rattle.records.proofs.FiniteLaws.{any-zero, any-still, any-of, any-none, none-any, any-same, all-more, count-more, count-one, count-found, none-count, least-is, any-iff}
 use Rattle.records.proofs.ExecutableLaws.{eqb-iff}
@@ -208,7 +209,7 @@ module _ (s : Signature) (w : List ℕ) where
         z .last a m ∙ q ∙ sym (name-is w a one j l p (fact-object s w j (any-none (faultyFact s w) (entries stateLayout w) (z .faultless) j l)))
 
     misnames-is : (a : ℕ) → a < 4 → ((b : ℕ) → b < a → misnamedAt counts named b ≡ false) → misnamedAt counts named a ≡ misnames w a
-    unfolding repeatsIn
+    unfolding repeats
     misnames-is a m earlier = rw (z .counted a m) (pick (ℕ-discrete (count (entries stateLayout w) (namesAt w a)) 1))
       where
         once : (b : ℕ) → b < a → count (entries stateLayout w) (namesAt w b) ≡ 1
@@ -216,11 +217,11 @@ module _ (s : Signature) (w : List ℕ) where
             sym (z .counted b (omega arith)) ∙ eqb-true (getD counts b 0) 1 (not-false _ (or-false-left (not (eqb (getD counts b 0) 1)) _ (earlier b l)))
 
         pick : Dec (count (entries stateLayout w) (namesAt w a) ≡ 1)
-            → (not (eqb (count (entries stateLayout w) (namesAt w a)) 1) || any a (sameObject named a)) ≡ (not (eqb (count (entries stateLayout w) (namesAt w a)) 1) || any a (shares w a))
+            → (not (eqb (count (entries stateLayout w) (namesAt w a)) 1) || any a (sameAs (namedIn named) a)) ≡ (not (eqb (count (entries stateLayout w) (namesAt w a)) 1) || any a (sameAs (stateOf w .names) a))
         pick (no n) = rw (ne-eqb (count (entries stateLayout w) (namesAt w a)) 1 n)
         pick (yes one) =
             rw (eq-eqb (count (entries stateLayout w) (namesAt w a)) 1 one)
-            (any-same (sameObject named a) (shares w a) a (λ b l h. rw (named-is b (omega arith) (once b l), named-is a m one)))
+            (any-same (sameAs (namedIn named) a) (sameAs (stateOf w .names) a) a (λ b l h. rw (named-is b (omega arith) (once b l), named-is a m one)))
 
     pub kept-10 : misnamed counts named (s .constants) ≡ refusal-10 s w
     unfolding misnamed refusal-10
@@ -230,7 +231,7 @@ module _ (s : Signature) (w : List ℕ) where
         pick (yes l) =
             rw (lt-ltb 4 (s .constants) l)
             (sym (any-of (misnames w) (s .constants) 4 l
-            (or-left (not (eqb (count (entries stateLayout w) (namesAt w 4)) 1)) (any 4 (shares w 4))
+            (or-left (not (eqb (count (entries stateLayout w) (namesAt w 4)) 1)) (repeats (stateOf w .names) 4)
             (rw (none-count (namesAt w 4) (entries stateLayout w) unnamed)))))
           where
             unnamed : (i : ℕ) → i < entries stateLayout w → namesAt w 4 i ≡ false

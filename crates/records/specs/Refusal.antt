@@ -19,6 +19,7 @@ use Rattle.records.specs.declared.concept.ConceptAnswer.the-variants as 
 use Rattle.records.specs.declared.state.StateAnswer.{StateAnswer}
 use Rattle.records.specs.declared.state.StateAnswer.the-variants as state
 use Rattle.records.specs.Finite.{any, count}
+use Rattle.records.specs.State.{repeats}
 use Rattle.records.specs.declared.layout.Layout.{Layout}
 use Rattle.records.specs.Layout.{schemaLayout, conceptLayout, stateLayout, sizeAt, entries, leftAt, rightAt, lengthFor, maxClasses, maxAttributes, maxConstants, maxAxioms, maxTokens, maxObjects, maxFacts, attributeKinds, constantKinds, factKinds}
 use Rattle.records.specs.SchemaRecord.{signatureOf, axiomKind, schemaOf}
@@ -177,13 +178,10 @@ refusal-9 w = any (entries stateLayout w - 1) (descends w)
 abbrev pub namesAt : List ℕ → ℕ → ℕ → Bool
 namesAt w a i = eqb (kindAt w i) (constantKinds + a)
 
-abbrev pub shares : List ℕ → ℕ → ℕ → Bool
-shares w a b = eqb (stateOf w .names b) (stateOf w .names a)
-
 -- constant a has no object or several, or the object of an earlier constant
 -- (facts that ascend strictly are different, so it has as many objects as facts)
 abbrev pub misnames : List ℕ → ℕ → Bool
-misnames w a = not (eqb (count (entries stateLayout w) (namesAt w a)) 1) || any a (shares w a)
+misnames w a = not (eqb (count (entries stateLayout w) (namesAt w a)) 1) || repeats (stateOf w .names) a
 
 -- 10. A declared constant has no object or several, or two constants have the same object.
 unfoldable pub refusal-10 : Signature → List ℕ → Bool

@@ -9,6 +9,7 @@ use Rattle.records.specs.declared.concept.Token.{Token}
 use Rattle.records.specs.declared.concept.Token.the-variants.{Class, Everything, Constant, Both, Empty, Forward, Backward, Reached, Common}
 use Rattle.records.specs.declared.concept.Sorts.{Sorts}
 use Rattle.records.specs.Finite.{any}
+use Rattle.records.specs.State.{repeats}
 use Rattle.records.specs.Layout.{constantKinds, factKinds, maxConstants}
 use Rattle.records.specs.Refusal.{ascends}
 
@@ -51,16 +52,13 @@ followsAt w (suc i) = ascends w i
 abbrev pub slotOf : ℕ → ℕ
 slotOf k = cond (leb constantKinds k && ltb k factKinds) (k - constantKinds) maxConstants
 
-abbrev pub sameObject : List ℕ → ℕ → ℕ → Bool
-sameObject named a b = eqb (getD named b 0) (getD named a 0)
-
--- an earlier constant has the same object
-unfoldable pub repeatsIn : List ℕ → ℕ → Bool
-repeatsIn named a = any a (sameObject named a)
+-- the object that was last seen for constant a
+abbrev pub namedIn : List ℕ → ℕ → ℕ
+namedIn named a = getD named a 0
 
 -- constant a has no fact or several, or its object is an earlier one's
 abbrev pub misnamedAt : List ℕ → List ℕ → ℕ → Bool
-misnamedAt counts named a = not (eqb (getD counts a 0) 1) || repeatsIn named a
+misnamedAt counts named a = not (eqb (getD counts a 0) 1) || repeats (namedIn named) a
 
 -- and a constant that no fact can name has none
 unfoldable pub misnamed : List ℕ → List ℕ → ℕ → Bool

@@ -26,5 +26,5 @@ Holds I (Relates P A B) = Every I λ d. Every I λ e. Related I P d e → Member
 
 -- I is a state for the schema's constants, and every axiom holds in it.
 pub record Legal (S : Schema) (I : State) : Type 0 where
-  pub names : Names (S .signature .constants) I
+  pub names : Names (S .signature) I
   pub holds : (i : ℕ) → i < S .axioms → Holds I (S .axiomAt i)

@@ -1,7 +1,10 @@
 -- Document 01, "Meaning": states. No limit of the records applies to them.
 use Prim.Native.Nat.{ℕ, _<_}
-use mathlib.Core.Bool.{Bool, So}
+use mathlib.Core.Bool.{Bool, So, false}
 use mathlib.Core.Path.{_≡_}
+use lib.Dec.{eqb}
+use Rattle.records.specs.declared.schema.Signature.{Signature}
+use Rattle.records.specs.Finite.{any}
 
 -- A finite set of objects, the numbers below `size` (it may be empty); a set of objects for each class;
 -- a set of ordered pairs for each attribute; and an object for each constant.
@@ -27,7 +30,15 @@ Every I X = (d : ℕ) → d < I .size → X d
 abbrev pub Some : State → (ℕ → Type 0) → Type 0
 Some I X = (d : ℕ) × (d < I .size) × X d
 
--- Each of so many constants names an object, and different constants name different objects.
-pub record Names (constants : ℕ) (I : State) : Type 0 where
-  pub inside : (a : ℕ) → a < constants → I .names a < I .size
-  pub apart : (a b : ℕ) → a < constants → b < constants → I .names a ≡ I .names b → a ≡ b
+-- constants a and b have the same, where f is what each has
+abbrev pub sameAs : (ℕ → ℕ) → ℕ → ℕ → Bool
+sameAs f a b = eqb (f b) (f a)
+
+-- constant a has the same as an earlier one
+unfoldable pub repeats : (ℕ → ℕ) → ℕ → Bool
+repeats f a = any a (sameAs f a)
+
+-- Each declared constant names an object, and different constants name different objects.
+pub record Names (s : Signature) (I : State) : Type 0 where
+  pub inside : (a : ℕ) → a < s .constants → I .names a < I .size
+  pub apart : (a : ℕ) → a < s .constants → repeats (I .names) a ≡ false

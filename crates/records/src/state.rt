@@ -13,7 +13,8 @@ ghost use Rattle.records.specs.Word.{IsWord, IsLayout};
 ghost use Rattle.records.specs.Layout.{entries as entriesOf, stateLayout};
 ghost use Rattle.records.specs.StateRecord.{objects as objectsOf, kindAt, objectAt};
 ghost use Rattle.records.specs.Refusal.{refusal-7, declaresKind, suitsKind, faultyFact, ascends as ascendsAt, stateAnswer, stateNumber};
-ghost use Rattle.records.specs.Scan.{followsAt, slotOf, repeatsIn, misnamed as misnamedIn};
+ghost use Rattle.records.specs.Scan.{followsAt, slotOf, namedIn, misnamed as misnamedIn};
+ghost use Rattle.records.specs.State.{repeats as repeatsIn};
 
 pub const MAX_OBJECTS: usize = 480;
 
@@ -159,7 +160,7 @@ fn slot(kind: usize) -> usize
 // An earlier constant has the same object.
 fn repeats(named: &[usize; SLOTS], a: usize) -> bool
     requires { ⌜ (a < 5) × (length (now named) ≡ 5) ⌝ }
-    ensures { λ r. ⌜ r ≡ repeatsIn (now (named .entry)) a ⌝ }
+    ensures { λ r. ⌜ r ≡ repeatsIn (namedIn (now (named .entry))) a ⌝ }
 {
     for b in 0..a {
         if named[b] == named[a] {

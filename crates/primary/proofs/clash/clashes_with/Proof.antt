@@ -7,12 +7,13 @@ use native.Mathlib.Nat.{le-antisymm}
 use Rattle.records.specs.Finite.{any}
 use Rattle.records.proofs.FiniteLaws.{any-zero}
 use Rattle.primary.proofs.BeginLaws.{any-turn}
-use Rattle.primary.specs.Clash.{sameRep, clashesWith}
+use Rattle.primary.specs.Clash.{repAt}
+use Rattle.records.specs.State.{sameAs, repeats}
 use Rattle.primary.proofs.clash.clashes_with.Statement.{statement}
 use Rattle.primary.proofs.clash.clashes_with.Tie as tie
 
 abbrev Inv-loop : tie.InvT-loop
-Inv-loop reps first b found₀ a₀ found a = (a ≤ b) × (found ≡ any a (sameRep reps first b))
+Inv-loop reps first b found₀ a₀ found a = (a ≤ b) × (found ≡ any a (sameAs (repAt reps first) b))
 
 abbrev μ-loop : tie.MeasureT-loop
 μ-loop reps first b found₀ a₀ found a = b - a
@@ -45,11 +46,11 @@ loop-less : tie.Need-loop-less Inv-loop μ-loop
 loop-less c = omega arith
 
 loop-again : tie.Need-loop-again Inv-loop μ-loop
-loop-again c = (omega arith, any-turn (sameRep (c .before .before .before .before .args .reps .now) (c .before .before .before .before .args .first) (c .before .before .before .before .args .b)) _ _ (c .before .before .before .loop .inv .1))
+loop-again c = (omega arith, any-turn (sameAs (repAt (c .before .before .before .before .args .reps .now) (c .before .before .before .before .args .first)) (c .before .before .before .before .args .b)) _ _ (c .before .before .before .loop .inv .1))
 
 returns : tie.Need-returns Inv-loop μ-loop
-unfolding clashesWith
-returns c = c .before .loop .inv .1 ∙ ap (λ (k : ℕ). any k (sameRep (c .before .before .args .reps .now) (c .before .before .args .first) (c .before .before .args .b))) (le-antisymm (c .before .loop .inv .0) (c .loop-test .left))
+unfolding repeats
+returns c = c .before .loop .inv .1 ∙ ap (λ (k : ℕ). any k (sameAs (repAt (c .before .before .args .reps .now) (c .before .before .args .first)) (c .before .before .args .b))) (le-antisymm (c .before .loop .inv .0) (c .loop-test .left))
 
 pub clashes-with-spec : {M : Type 1} → statement M
 clashes-with-spec = tie.close (tie.spec Inv-loop μ-loop loop-holds add-found mul-found shared-slice-read-found add-found-2 mul-found-2 shared-slice-read-found-2 add-a loop-less loop-again returns)

@@ -2,7 +2,8 @@
 use Prim.Native.Nat.{_-_, _≤_}
 use Rattle.records.proofs.FiniteLaws.{any-of, any-still, any-zero}
 use Rattle.records.specs.Finite.{any}
-use Rattle.records.specs.Scan.{repeatsIn, sameObject}
+use Rattle.records.specs.Scan.{namedIn}
+use Rattle.records.specs.State.{sameAs, repeats}
 use borrow.Author.Needs.{needs}
 use borrow.Author.Tests.{eq-eqb, ne-eqb}
 use mathlib.Core.Bool.{false}
@@ -13,7 +14,7 @@ use Rattle.records.proofs.state.repeats.Statement.{statement}
 use Rattle.records.proofs.state.repeats.Tie as tie
 
 abbrev Inv-loop : tie.InvT-loop
-Inv-loop named a b₀ b = (b ≤ a) × (any b (sameObject named a) ≡ false)
+Inv-loop named a b₀ b = (b ≤ a) × (any b (sameAs (namedIn named) a) ≡ false)
 
 abbrev μ-loop : tie.MeasureT-loop
 μ-loop named a b₀ b = a - b
@@ -34,9 +35,9 @@ element-copy-out-if1-2 : tie.Need-element-copy-out-if1-2 Inv-loop μ-loop
 element-copy-out-if1-2 c = search needs
 
 returns : tie.Need-returns Inv-loop μ-loop
-unfolding repeatsIn
+unfolding repeats
 returns c =
-    sym (any-of (sameObject (c .before .before .before .before .before .args .named .now) (c .before .before .before .before .before .args .a)) _ _ (c .before .before .before .loop-test .taken) (eq-eqb _ _ (c .if1 .taken)))
+    sym (any-of (sameAs (namedIn (c .before .before .before .before .before .args .named .now)) (c .before .before .before .before .before .args .a)) _ _ (c .before .before .before .loop-test .taken) (eq-eqb _ _ (c .if1 .taken)))
 
 add-b : tie.Need-add-b Inv-loop μ-loop
 add-b c = search needs
@@ -46,10 +47,10 @@ loop-less c = omega arith
 
 loop-again : tie.Need-loop-again Inv-loop μ-loop
 loop-again c =
-    (omega arith, any-still (sameObject (c .before .before .before .before .before .args .named .now) (c .before .before .before .before .before .args .a)) _ (c .before .before .before .before .loop .inv .1) (ne-eqb _ _ (c .if1 .left)))
+    (omega arith, any-still (sameAs (namedIn (c .before .before .before .before .before .args .named .now)) (c .before .before .before .before .before .args .a)) _ (c .before .before .before .before .loop .inv .1) (ne-eqb _ _ (c .if1 .left)))
 
 returns-2 : tie.Need-returns-2 Inv-loop μ-loop
-unfolding repeatsIn
+unfolding repeats
 returns-2 c = sym (rw (le-antisymm (c .before .loop .inv .0) (c .loop-test .left)) at (c .before .loop .inv .1))
 
 pub repeats-spec : {M : Type 1} → statement M
