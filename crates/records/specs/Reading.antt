@@ -24,6 +24,7 @@ conceptAt w e = topConcept (pileAfter w e)
 abbrev pub pathAt : List ℕ → ℕ → Path
 pathAt w e = topPath (pileAfter w e)
 
+-- .. and there is one
 unfoldable pub HasConcept : List ℕ → ℕ → Type 0
 HasConcept w e = (s : List Item) × (pileAfter w e ≡ some (concept (conceptAt w e) ∷ s))
 
