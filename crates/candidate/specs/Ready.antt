@@ -8,7 +8,7 @@ use Rattle.records.specs.Layout.{querySteps, maxObjects}
 use Rattle.records.specs.SchemaRecord.{schemaOf}
 use Rattle.records.specs.Refusal.{AcceptedSchema}
 use Rattle.chase.specs.Candidate.{objects}
-use Rattle.primary.specs.Formed.{maxNodes}
+use Rattle.chase.specs.Bounds.{maxNodes}
 use Rattle.ground.specs.Numbers.{Inside}
 use Rattle.ground.specs.Objects.{groundIn, forestIn}
 use Rattle.forest.specs.Kept.{Kept}

@@ -7,7 +7,7 @@ use records::state::MAX_FACTS;
 ghost use Prim.Native.Nat.{_+_, _≤_};
 ghost use lib.ListN.{length};
 ghost use Rattle.records.specs.Layout.{maxConstants};
-ghost use Rattle.primary.specs.Formed.{maxNodes};
+ghost use Rattle.chase.specs.Bounds.{maxNodes};
 ghost use Rattle.ground.specs.Numbers.{Inside};
 ghost use Rattle.candidate.specs.Writing.{Room, Wrote};
 ghost use Rattle.candidate.specs.Facts.{nameFacts};

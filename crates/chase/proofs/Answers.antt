@@ -1,5 +1,5 @@
 -- What the model answers. The candidate is a finished chase (finished), so its start decides: a clash means held, and so does
--- a start in the view; otherwise the candidate is a counterexample. The candidate has at most 463 objects.
+-- a start in the view; otherwise the candidate is a counterexample. The candidate is small (is-small).
 use Prim.Native.Nat.{ℕ, zero, suc, _≤_, _<_}
 use native.Mathlib.Omega.{arith}
 use native.Mathlib.Decide.{decLt}
@@ -43,6 +43,8 @@ use Rattle.chase.proofs.WalkLaws.{Cov, walks-cover}
 use Rattle.chase.proofs.SizeLaws.{walks-size}
 use Rattle.chase.proofs.CandidateLaws.{link-elim, edges-linked, ground-classes, pair-is, link-inside, room, closing-room, candidate-chased}
 use Rattle.chase.proofs.Coverage.{covered}
+use Rattle.chase.specs.Bounds.{maxCandidate}
+use Rattle.records.specs.Layout.{querySteps, viewSteps, maxConstants}
 
 module _ (t : Task) (formed : WellFormed t) (G : Ground) (node : ℕ → ℕ) (T : Forest) (ok : Grounded t G node)
     (valid : Grown (t .schema) G bare T) where
@@ -228,11 +230,12 @@ module _ (t : Task) (formed : WellFormed t) where
       → Counterexample (t .schema) (t .query) (t .view) (candidate t) (first t)
   says-open n x = record { legal = candidate-legal n; selected = opened t _ _ _ _ _ _ (finished n) .1; outside = x }
 
-  pub is-small : conceptSteps (t .query) ≤ 16 → conceptSteps (t .view) ≤ 6 → t .schema .signature .constants ≤ 4 → candidate t .size ≤ 463
+  pub is-small : conceptSteps (t .query) ≤ querySteps → conceptSteps (t .view) ≤ viewSteps → t .schema .signature .constants ≤ maxConstants
+      → candidate t .size ≤ maxCandidate
   unfolding ground groundOf forest objects
   is-small q v c =
       let G = ground t in
-      cond-elim (λ n. n ≤ 463) (lacking (t .schema) G (forest t)) (λ _. bounded) (λ _. omega (arith, bounded))
+      cond-elim (λ n. n ≤ maxCandidate) (lacking (t .schema) G (forest t)) (λ _. bounded) (λ _. omega (arith, bounded))
     where
-      bounded : suc (size (ground t) (forest t)) ≤ 463
+      bounded : suc (size (ground t) (forest t)) ≤ maxCandidate
       bounded = omega (arith, walks-size (t .schema) (ground t) (t .view) v, count-le (live (primary t)) (nodes t))

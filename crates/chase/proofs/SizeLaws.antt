@@ -1,5 +1,5 @@
 -- How many objects are made: at the k-th step of the view at most k from each object of the ground, so at most
--- 1 + 2 + .. + 6 = 21 for a view of six steps.
+-- tri n for a view of n steps.
 use Prim.Native.Nat.{ℕ, zero, suc, _+_, _-_, _*_, _≤_}
 use native.Mathlib.Omega.{arith}
 use native.Mathlib.Nat.{suc-mul, mul-le-mul-left, add-zero, zero-add}
@@ -13,14 +13,10 @@ use Rattle.records.specs.Steps.{conceptSteps, pathSteps}
 use Rattle.chase.specs.Ground.{Ground}
 use Rattle.chase.specs.Forest.{Forest, bare, size, hop, push, next, lacks, make, makeFor, walk, trek, walks}
 use Rattle.chase.proofs.TestLaws.{cond-elim}
-
--- 1 + 2 + .. + n
-pub tri : ℕ → ℕ
-tri zero = zero
-tri (suc n) = tri n + suc n
+use Rattle.chase.specs.Bounds.{tri}
+use Rattle.records.specs.Layout.{viewSteps}
 
 tri-next : (n m : ℕ) → n ≡ suc m → tri n ≡ tri m + suc m
-unfolding tri
 tri-next n m e = ap tri e
 
 tri-mono : (n k : ℕ) → tri n ≤ tri (n + k)
@@ -98,7 +94,7 @@ module _ (S : Schema) (G : Ground) where
         (λ k U i g. walk-size C s k U i g)
 
   walks-size-to : (view : Concept) (n : ℕ) → size G (upto (λ s. walk S G view s []) n bare) ≤ G .objects + n * tri (conceptSteps view)
-  unfolding upto size tri
+  unfolding upto size
   walks-size-to view zero = omega arith
   walks-size-to view (suc n) =
       let T = upto (λ s. walk S G view s []) n bare in
@@ -111,10 +107,10 @@ module _ (S : Schema) (G : Ground) where
             (zero-add (conceptSteps view)),
       )
 
-  pub walks-size : (view : Concept) → conceptSteps view ≤ 6 → size G (walks S G view) ≤ G .objects + G .objects * 21
-  unfolding walks tri
+  pub walks-size : (view : Concept) → conceptSteps view ≤ viewSteps → size G (walks S G view) ≤ G .objects + G .objects * tri viewSteps
+  unfolding walks
   walks-size view h =
       let n = conceptSteps view in
-      let q : n + (6 - n) ≡ 6 = omega arith in
-      let small : tri n ≤ 21 = omega (arith, tri-mono n (6 - n), ap tri q) in
+      let q : n + (viewSteps - n) ≡ viewSteps = omega arith in
+      let small : tri n ≤ tri viewSteps = omega (arith, tri-mono n (viewSteps - n), ap tri q) in
       omega (arith, walks-size-to view (G .objects), mul-le-mul-left (G .objects) small)

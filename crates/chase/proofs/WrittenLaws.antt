@@ -34,6 +34,7 @@ use Rattle.chase.proofs.GatherLaws.{gather-of, gather-is, gather-betwee
 use Rattle.chase.proofs.Alike.{Alike}
 use Rattle.chase.proofs.RecordLaws.{record-objects, record-length}
 use Rattle.chase.proofs.FactList.{FactOf, ofClass, ofPair, ofName, Lists, Limited, list-accepted, list-alike}
+use Rattle.chase.specs.Bounds.{maxCandidate}
 
 -- A class has at most all objects, and there are at most as many pairs as objects and edges give.
 pub object-facts-few : (S : Schema) (G : Ground) (T : Forest)
@@ -94,7 +95,7 @@ module _ (t : Task) (ok : Within t) where
   abbrev n : ℕ
   n = objects (t .schema) (ground t) (forest t)
 
-  objects-few : n ≤ 463
+  objects-few : n ≤ maxCandidate
   objects-few = is-small t (ok .formed) (ok .query) (ok .view) (ok .constants)
 
   name-of : (a : ℕ) → a < S .signature .constants → candidate t .names a ≡ G .constants a

@@ -12,4 +12,5 @@ pub mod Closing
 pub mod Candidate
 pub mod Targets
 pub mod Written
+pub mod Bounds
 pub mod QueryTokens

@@ -18,7 +18,8 @@ use Rattle.chase.specs.Candidate.{objects, forest}
 use Rattle.chase.proofs.AcceptanceLaws.{Within, accepted-within}
 use Rattle.chase.proofs.PairLaws.{asked-edges}
 use Rattle.chase.proofs.WrittenLaws.{facts-few}
-use Rattle.primary.specs.Formed.{prime, maxNodes, Becomes}
+use Rattle.primary.specs.Formed.{prime, Becomes}
+use Rattle.chase.specs.Bounds.{maxNodes}
 use Rattle.primary.specs.Words.{edgeOf}
 use Rattle.primary.specs.Clash.{clashesIn}
 use Rattle.primary.specs.Asked.{queryTask}

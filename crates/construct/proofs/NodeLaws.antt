@@ -10,7 +10,7 @@ use Rattle.records.specs.SchemaRecord.{signatureOf, schemaOf}
 use Rattle.records.proofs.AcceptedLaws.{passes-1}
 use Rattle.chase.specs.Task.{nodes, taskOf}
 use Rattle.chase.proofs.AcceptanceLaws.{accepted-signature}
-use Rattle.primary.specs.Formed.{maxNodes}
+use Rattle.chase.specs.Bounds.{maxNodes}
 use Rattle.primary.specs.Asked.{queryTask}
 use Rattle.primary.proofs.SettleLaws.{nodes-few}
 use Rattle.asked.proofs.AskedLaws.{start-is}

@@ -18,12 +18,13 @@ use Rattle.records.specs.Steps.{conceptSteps}
 use Rattle.chase.specs.Forest.{Forest, bare, size, walk, walks}
 use Rattle.records.specs.Reading.{conceptAt, HasConcept}
 use Rattle.chase.proofs.SizeLaws.{walks-size}
-use Rattle.primary.specs.Formed.{maxNodes}
+use Rattle.chase.specs.Bounds.{maxNodes}
 use Rattle.ground.specs.Objects.{forestIn, groundIn}
 use Rattle.forest.specs.declared.places.Here.{Here}
 use Rattle.forest.specs.Kept.{Kept, Grows}
 use Rattle.forest.specs.Places.{Begins}
-use Rattle.forest.specs.Walking.{walked, CanWalk, Walked, mostObjects, Walks}
+use Rattle.forest.specs.Walking.{walked, CanWalk, Walked, Walks}
+use Rattle.chase.specs.Bounds.{maxForest}
 use Rattle.forest.proofs.ObjectLaws.{forest-none, size-laid}
 use Rattle.forest.proofs.GrowLaws.{grows-then, grows-self}
 use Rattle.forest.proofs.WalkLaws.{walk-more, same-size}
@@ -55,7 +56,7 @@ module _ (schema view edges objects : List ℕ) (g : ℕ) (legal : AcceptedSchem
   short =
       accepted-limit view (passes-5 viewSteps (signatureOf schema) view sound) viewSteps (passes-6 viewSteps (signatureOf schema) view sound)
 
-  all-small : size G (walks S G (conceptOf view)) ≤ mostObjects
+  all-small : size G (walks S G (conceptOf view)) ≤ maxForest
   all-small = omega (arith, walks-size S G (conceptOf view) short)
 
   round-small : (s : ℕ) → s < g → size G (rounds S G (conceptOf view) (suc s)) ≤ maxObjects

@@ -11,7 +11,7 @@ use Rattle.records.specs.Refusal.{AcceptedSchema, AcceptedConcept}
 use Rattle.records.specs.Steps.{conceptSteps, pathSteps}
 use Rattle.records.specs.Reading.{conceptAt, pathAt, HasConcept, HasPath}
 use Rattle.chase.specs.Forest.{Forest, size, walk, trek, walks}
-use Rattle.primary.specs.Formed.{maxNodes}
+use Rattle.chase.specs.Bounds.{maxForest}
 use Rattle.ground.specs.Objects.{forestIn, groundIn}
 use Rattle.forest.specs.declared.places.Here.{Here}
 use Rattle.forest.specs.Kept.{Kept, Grows}
@@ -57,14 +57,10 @@ pub record Trekked (schema view edges objects : List ℕ) (g s e : ℕ) (h : Her
   pub list : standing r ≡ trekked schema edges objects g s h (pathAt view e) .1
   pub stands : Stands r
 
--- the objects of the largest ground, and 1 + 2 + .. + 6 made ones for each of them
-abbrev pub mostObjects : ℕ
-mostObjects = maxNodes + maxNodes * 21
-
 -- the walks from all objects of the ground
 pub record Walks (schema view edges objects : List ℕ) (g : ℕ) (after : List ℕ) (r : ℕ) : Type 0 where
   pub value : forestIn g r after ≡ walks (schemaOf schema) (groundIn g objects edges) (conceptOf view)
   pub size : r ≡ size (groundIn g objects edges) (walks (schemaOf schema) (groundIn g objects edges) (conceptOf view))
-  pub small : r ≤ mostObjects
+  pub small : r ≤ maxForest
   pub kept : Kept g r after
   pub ground : take g after ≡ take g objects

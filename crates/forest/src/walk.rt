@@ -18,7 +18,7 @@ ghost use Rattle.records.specs.Concept.{directionOf};
 ghost use Rattle.records.specs.ConceptRecord.{tokenAt};
 ghost use Rattle.records.specs.Reading.{stepToken};
 ghost use Rattle.records.specs.Refusal.{AcceptedSchema, AcceptedConcept};
-ghost use Rattle.primary.specs.Formed.{maxNodes};
+ghost use Rattle.chase.specs.Bounds.{maxNodes};
 ghost use Rattle.forest.specs.Kept.{Kept};
 ghost use Rattle.forest.specs.Walking.{CanWalk, CanTrek, Walked, Trekked, Walks};
 

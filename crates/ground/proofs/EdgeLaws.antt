@@ -5,7 +5,7 @@ use mathlib.Core.List.{List, [], _∷_, map}
 use mathlib.Core.Path.{_≡_, refl, sym, ap, ap₂, subst, _∙_}
 use lib.ListN.{length, getD}
 use Rattle.chase.specs.Facts.{Edge}
-use Rattle.primary.specs.Formed.{maxNodes}
+use Rattle.chase.specs.Bounds.{maxNodes}
 use Rattle.primary.specs.Words.{edgeOf, EdgeIn, EdgesIn}
 use Rattle.primary.proofs.WordLaws.{edge-word}
 use Rattle.primary.proofs.TurnLaws.{changed}

@@ -16,7 +16,8 @@ use Rattle.chase.specs.Ground.{setAt, live, objectOf, listing, renumber, ground
 use Rattle.chase.proofs.Answers.{ground-is}
 use Rattle.chase.proofs.CountLaws.{count-le}
 use Rattle.chase.proofs.ListLaws.{getD-map}
-use Rattle.primary.specs.Formed.{prime, maxNodes}
+use Rattle.primary.specs.Formed.{prime}
+use Rattle.chase.specs.Bounds.{maxNodes}
 use Rattle.primary.specs.Words.{edgeOf}
 use Rattle.ground.specs.Objects.{classesIn, groundWord, groundIn, Laid}
 use Rattle.ground.specs.Numbers.{objectIn, renumberIn}

@@ -15,7 +15,8 @@ use Rattle.records.proofs.FiniteLaws.{count-turn, count-le}
 use Rattle.chase.specs.Loops.{upto}
 use Rattle.chase.specs.Primary.{Prime, repOf, setOf}
 use Rattle.chase.specs.Ground.{live, objectOf, listing}
-use Rattle.primary.specs.Formed.{prime, maxNodes}
+use Rattle.primary.specs.Formed.{prime}
+use Rattle.chase.specs.Bounds.{maxNodes}
 use Rattle.primary.specs.Words.{part}
 use Rattle.ground.specs.Objects.{groundWord}
 use Rattle.ground.specs.Laying.{Grounds}

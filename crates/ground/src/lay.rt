@@ -6,7 +6,8 @@ ghost use mathlib.Core.Path.{_≡_};
 ghost use Prim.Native.Nat.{_≤_};
 ghost use lib.ListN.{length};
 ghost use Rattle.records.specs.Layout.{maxObjects};
-ghost use Rattle.primary.specs.Formed.{prime, maxNodes, Formed};
+ghost use Rattle.primary.specs.Formed.{prime, Formed};
+ghost use Rattle.chase.specs.Bounds.{maxNodes};
 ghost use Rattle.ground.specs.Objects.{groundWord};
 ghost use Rattle.ground.specs.Laying.{Grounds};
 

@@ -7,7 +7,7 @@ ghost use mathlib.Core.Path.{_≡_};
 ghost use mathlib.Core.List.{map};
 ghost use Prim.Native.Nat.{_<_, _≤_};
 ghost use lib.ListN.{length};
-ghost use Rattle.primary.specs.Formed.{maxNodes};
+ghost use Rattle.chase.specs.Bounds.{maxNodes};
 ghost use Rattle.primary.specs.Words.{edgeOf, EdgeIn, EdgesIn};
 ghost use Rattle.ground.specs.Numbers.{Inside, liveIn, objectIn, renumberIn, renumberWord};
 

@@ -17,7 +17,8 @@ use Rattle.chase.proofs.AcceptanceLaws.{accepted-signature, accepted-formed}
 use Rattle.chase.proofs.LoopLaws.{grows-le, still}
 use Rattle.chase.proofs.PrimeLaws.{Ok, weight-bound}
 use Rattle.chase.proofs.PrimaryLaws.{within, pass-grows, begin-ok, settled-next, settled-stop}
-use Rattle.primary.specs.Formed.{prime, Formed, Becomes, maxNodes}
+use Rattle.primary.specs.Formed.{prime, Formed, Becomes}
+use Rattle.chase.specs.Bounds.{maxNodes}
 use Rattle.primary.specs.Words.{memberOf, equationOf, edgeOf, FactsIn}
 use Rattle.primary.specs.Pass.{passOn}
 use Rattle.primary.specs.Asked.{queryTask, Asks}

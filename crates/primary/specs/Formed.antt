@@ -24,7 +24,3 @@ pub record Becomes (n : ℕ) (reps sets : List ℕ) (x : Prime) : Type 0 where
   pub value : prime reps sets ≡ x
   pub formed : Formed reps sets
   pub size : length reps ≡ n
-
--- the steps, the start and the constants of the largest query
-abbrev pub maxNodes : ℕ
-maxNodes = 21

@@ -3,7 +3,7 @@ ghost use mathlib.Core.Path.{_≡_};
 ghost use Prim.Native.Nat.{_<_, _≤_, _^_};
 ghost use lib.ListN.{length, replicate};
 ghost use Rattle.chase.specs.Primary.{numbersFrom};
-ghost use Rattle.primary.specs.Formed.{maxNodes};
+ghost use Rattle.chase.specs.Bounds.{maxNodes};
 
 fn narrow(x: usize) -> u32
     requires { ⌜ x < 2 ^ 32 ⌝ }

@@ -11,7 +11,8 @@ ghost use lib.ListN.{length};
 ghost use Rattle.records.specs.SchemaRecord.{schemaOf};
 ghost use Rattle.records.specs.Refusal.{AcceptedSchema};
 ghost use Rattle.chase.specs.Primary.{weight as weightOf};
-ghost use Rattle.primary.specs.Formed.{prime, Formed, Becomes, maxNodes};
+ghost use Rattle.primary.specs.Formed.{prime, Formed, Becomes};
+ghost use Rattle.chase.specs.Bounds.{maxNodes};
 ghost use Rattle.primary.specs.Words.{memberOf, equationOf, edgeOf, FactsIn};
 ghost use Rattle.primary.specs.Pass.{passOn, Sum};
 
