@@ -10,6 +10,7 @@ use lib.ListN.{length, take}
 use Rattle.records.specs.Layout.{querySteps, viewSteps, maxConstants, maxObjects, attributeKinds}
 use Rattle.records.specs.Schema.{Schema}
 use Rattle.records.specs.SchemaRecord.{schemaOf}
+use Rattle.records.specs.Encoding.{fact}
 use Rattle.chase.specs.ClassSet.{has}
 use Rattle.chase.specs.Ground.{Ground, ground}
 use Rattle.chase.specs.Primary.{primary}
@@ -17,7 +18,7 @@ use Rattle.records.specs.Steps.{conceptSteps}
 use Rattle.chase.specs.Task.{Task, WellFormed}
 use Rattle.chase.specs.Forest.{Forest}
 use Rattle.chase.specs.Candidate.{objects, forest}
-use Rattle.chase.specs.Written.{fact, gather, nameFact, classFacts, pairFacts, objectFacts, facts}
+use Rattle.chase.specs.Written.{gather, nameFact, classFacts, pairFacts, objectFacts, facts}
 use Rattle.chase.proofs.Answers.{is-small}
 use Rattle.primary.specs.Formed.{prime}
 use Rattle.ground.specs.Agrees.{Agrees}

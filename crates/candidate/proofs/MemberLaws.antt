@@ -3,10 +3,11 @@ use Prim.Native.Nat.{ℕ}
 use mathlib.Core.Bool.{Bool}
 use mathlib.Core.Path.{_≡_, ap, ap₂, _∙_}
 use Rattle.records.specs.Schema.{Schema}
+use Rattle.records.specs.Encoding.{fact}
 use Rattle.chase.specs.ClassSet.{has}
 use Rattle.chase.specs.Ground.{Ground}
 use Rattle.chase.specs.Forest.{Forest, classesOf}
-use Rattle.chase.specs.Written.{fact, classFacts}
+use Rattle.chase.specs.Written.{classFacts}
 use Rattle.candidate.specs.Writing.{factIf}
 
 pub class-is : (S : Schema) (G : Ground) (T : Forest) (A d c f : ℕ) (b : Bool) → c ≡ classesOf S G T d → b ≡ has c A → f ≡ fact A d 0

@@ -11,6 +11,7 @@ use lib.Seq.{take-all}
 use borrow.Author.Tests.{lt-ltb, le-ltb}
 use Rattle.records.specs.Layout.{maxFacts, attributeKinds}
 use Rattle.records.specs.Schema.{Schema}
+use Rattle.records.specs.Encoding.{fact}
 use Rattle.chase.specs.Loops.{anyOf, upto}
 use Rattle.chase.specs.Axioms.{collect, needsBy, needs}
 use Rattle.chase.specs.ClassSet.{meets}
@@ -19,7 +20,7 @@ use Rattle.chase.specs.Ground.{Ground, listing}
 use Rattle.chase.specs.Forest.{Forest, size, kid, push, asks, classesOf, lacks}
 use Rattle.chase.specs.Candidate.{links}
 use Rattle.chase.specs.Targets.{targets}
-use Rattle.chase.specs.Written.{fact, gather, pairFacts}
+use Rattle.chase.specs.Written.{gather, pairFacts}
 use Rattle.chase.proofs.LoopLaws.{any-next, any-map}
 use Rattle.chase.proofs.TestLaws.{cond-elim, cond-elim₂, or-false}
 use Rattle.chase.proofs.ForestLaws.{kid-lacks, kid-bound}

@@ -8,10 +8,11 @@ use Rattle.records.specs.Finite.{any}
 use Rattle.records.specs.Layout.{attributeKinds}
 use Rattle.records.specs.Schema.{Schema}
 use Rattle.records.specs.SchemaRecord.{schemaOf}
+use Rattle.records.specs.Encoding.{fact}
 use Rattle.chase.specs.Ground.{Ground}
 use Rattle.chase.specs.Forest.{Forest, size, kid, push, lacks}
 use Rattle.chase.specs.Candidate.{links, objects}
-use Rattle.chase.specs.Written.{fact, gather, nameFact, classFacts, pairFacts, objectFacts}
+use Rattle.chase.specs.Written.{gather, nameFact, classFacts, pairFacts, objectFacts}
 use Rattle.ground.specs.Objects.{groundIn, forestIn}
 use Rattle.ground.specs.Numbers.{objectIn}
 use Rattle.candidate.specs.Writing.{factIf}

@@ -4,7 +4,7 @@ use records::state::OBJECT_PART;
 ghost use mathlib.Core.Path.{_≡_};
 ghost use Prim.Native.Nat.{_<_};
 ghost use Rattle.records.specs.Layout.{objectPart, factKinds};
-ghost use Rattle.chase.specs.Written.{fact as factOf};
+ghost use Rattle.records.specs.Encoding.{fact as factOf};
 ghost use Rattle.candidate.specs.Writing.{Room, Wrote, factIf};
 
 // A fact is its left word times this plus its right word.

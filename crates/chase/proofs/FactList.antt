@@ -11,22 +11,24 @@ use lib.ListN.{length, getD}
 use borrow.Author.Tests.{eq-eqb, eqb-true, lt-ltb, le-ltb, le-leb, lt-leb}
 use Rattle.records.specs.declared.schema.Signature.{Signature}
 use Rattle.records.specs.Finite.{count}
-use Rattle.records.specs.Layout.{stateLayout, entries, lengthFor, maxClasses, maxAttributes, maxConstants, maxObjects, maxFacts, objectPart, attributeKinds, constantKinds, factKinds}
+use Rattle.records.specs.Layout.{stateLayout, entries, maxClasses, maxAttributes, maxConstants, maxObjects, maxFacts, objectPart, wordPart, attributeKinds, constantKinds, factKinds}
 use Rattle.records.specs.State.{State, Member, Related, Names}
 use Rattle.records.specs.StateRecord.{objects, kindAt, objectAt, stateOf}
-use Rattle.records.specs.Refusal.{misshapen, declaresKind, suitsKind, faultyFact, ascends, descends, namesAt, misnames, refusal-7, refusal-8, refusal-9, refusal-10, AcceptedState}
+use Rattle.records.specs.Refusal.{declaresKind, suitsKind, faultyFact, ascends, descends, namesAt, misnames, refusal-7, refusal-8, refusal-9, refusal-10, AcceptedState}
+use Rattle.records.specs.Encoding.{fact, leftWord, rightWord, stateRecord}
 use Rattle.records.proofs.BoolLaws.{and-both, or-left, or-right}
+use Rattle.records.proofs.EncodingLaws.{kindOf, objectIn, fact-parts, state-objects, state-facts, state-left, state-right, state-kind, state-object, state-shaped}
 use Rattle.records.proofs.FiniteLaws.{none-any}
 use Rattle.records.proofs.NamesLaws.{repeats-none}
 use Rattle.records.proofs.RefusalLaws.{state-accepted}
 use Rattle.records.proofs.StateScanLaws.{name-is}
-use Rattle.chase.specs.Written.{wordPart, fact, leftWord, rightWord, nameFact, stateRecord}
+use Rattle.chase.specs.Written.{nameFact}
 use Rattle.chase.proofs.All.{Mem}
 use Rattle.chase.proofs.ListLaws.{at-mem, mem-at}
 use Rattle.chase.proofs.CountLaws.{count-once}
 use Rattle.chase.proofs.Ascending.{Ascends, ascends-at, ascends-same}
 use Rattle.chase.proofs.Alike.{Alike}
-use Rattle.chase.proofs.RecordLaws.{kindOf, objectIn, fact-parts, record-objects, record-entries, record-length, record-left, record-right, record-kind, record-object, record-says, record-says-pair}
+use Rattle.chase.proofs.RecordLaws.{record-says, record-says-pair}
 
 -- the facts of a state, of what is declared
 pub data FactOf (s : Signature) (I : State) : ℕ → Type 0 where
@@ -134,49 +136,48 @@ module _ (s : Signature) (I : State) (l : List ℕ) (limits : Limited s I l) (na
       → So (namesAt w a i) × (objectAt w i ≡ I .names a)
   names-at a i h b q =
       let inside = names .inside a h in (
-        eq-eqb (kindAt w i) (constantKinds + a) (omega (arith, record-kind (I .size) l i b, limits .objects)),
-        omega (arith, record-object (I .size) l i b, limits .objects),
+        eq-eqb (kindAt w i) (constantKinds + a) (omega (arith, state-kind (I .size) l i b, limits .objects)),
+        omega (arith, state-object (I .size) l i b, limits .objects),
       )
 
   names-once : (a : ℕ) → a < s .constants → count (entries stateLayout w) (namesAt w a) ≡ 1
   names-once a h =
       let (i, b, q) = name-place a h in
-      count-once (namesAt w a) (entries stateLayout w) i (omega (arith, record-entries (I .size) l)) (names-at a i h b q .0)
+      count-once (namesAt w a) (entries stateLayout w) i (omega (arith, state-facts (I .size) l)) (names-at a i h b q .0)
       (λ j k t.
-      let c : j < length l = omega (arith, record-entries (I .size) l) in
+      let c : j < length l = omega (arith, state-facts (I .size) l) in
       ascends-same l (lists .ascends) j i c b
       (name-told a (lists .sound (getD l j 0) (at-mem l j c))
-      (sym (record-kind (I .size) l j c) ∙ eqb-true (kindAt w j) (constantKinds + a) t) ∙ sym q))
+      (sym (state-kind (I .size) l j c) ∙ eqb-true (kindAt w j) (constantKinds + a) t) ∙ sym q))
 
   list-names : (a : ℕ) → a < s .constants → stateOf w .names a ≡ I .names a
   list-names a h =
       let (i, b, q) = name-place a h in
       let (p, o) = names-at a i h b q in
-      name-is w a (names-once a h) i (omega (arith, record-entries (I .size) l)) p
-      (omega (arith, record-objects (I .size) l, names .inside a h)) ∙ o
+      name-is w a (names-once a h) i (omega (arith, state-facts (I .size) l)) p
+      (omega (arith, state-objects (I .size) l, names .inside a h)) ∙ o
 
   -- None of the refusals applies.
 
   shape : refusal-7 w ≡ false
-  unfolding refusal-7 misshapen lengthFor stateLayout
+  unfolding refusal-7
   shape =
       rw (
-        le-ltb maxObjects (objects w) (omega (arith, record-objects (I .size) l, limits .objects)),
-        le-ltb maxFacts (entries stateLayout w) (omega (arith, record-entries (I .size) l, limits .facts)),
-        le-ltb (length w) 2 (omega (arith, record-length (I .size) l)),
-        eq-eqb (length w) (2 + 2 * entries stateLayout w) (omega (arith, record-length (I .size) l, record-entries (I .size) l)),
+        le-ltb maxObjects (objects w) (omega (arith, state-objects (I .size) l, limits .objects)),
+        le-ltb maxFacts (entries stateLayout w) (omega (arith, state-facts (I .size) l, limits .facts)),
+        state-shaped (I .size) l,
       )
 
   faultless : refusal-8 s w ≡ false
   unfolding refusal-8 faultyFact
   faultless = none-any (faultyFact s w) (entries stateLayout w) λ i h.
-      let b : i < length l = omega (arith, record-entries (I .size) l) in
+      let b : i < length l = omega (arith, state-facts (I .size) l) in
       let ok = entry-sound i b in
       rw (
-        record-objects (I .size) l,
-        record-kind (I .size) l i b,
-        record-object (I .size) l i b,
-        record-right (I .size) l i,
+        state-objects (I .size) l,
+        state-kind (I .size) l i b,
+        state-object (I .size) l i b,
+        state-right (I .size) l i b,
         ok .kind,
         lt-leb (I .size) (objectIn (getD l i 0)) (ok .object),
         ok .right,
@@ -185,12 +186,12 @@ module _ (s : Signature) (I : State) (l : List ℕ) (limits : Limited s I l) (na
   order : refusal-9 w ≡ false
   unfolding refusal-9 ascends
   order = none-any (descends w) (entries stateLayout w - 1) λ i h.
-      let b : suc i < length l = omega (arith, record-entries (I .size) l) in
+      let b : suc i < length l = omega (arith, state-facts (I .size) l) in
       rw (
-        record-left (I .size) l i (omega arith),
-        record-left (I .size) l (suc i) b,
-        record-right (I .size) l i,
-        record-right (I .size) l (suc i),
+        state-left (I .size) l i (omega arith),
+        state-left (I .size) l (suc i) b,
+        state-right (I .size) l i (omega arith),
+        state-right (I .size) l (suc i) b,
         word-order (getD l i 0) (getD l (suc i) 0) (ascends-at l (lists .ascends) i (suc i) (omega arith) b),
       )
 
@@ -207,7 +208,7 @@ module _ (s : Signature) (I : State) (l : List ℕ) (limits : Limited s I l) (na
   unfolding stateOf
   list-alike =
       record {
-        size = sym (record-objects (I .size) l);
+        size = sym (state-objects (I .size) l);
         members = λ A d h k. (
           λ x. record-says (I .size) l A d .1
               (fact A d 0, lists .whole (fact A d 0) (ofClass A d h k x), omega (arith, limits .objects)),

@@ -8,10 +8,12 @@ use mathlib.Core.List.{List, [], _∷_, _++_, map}
 use mathlib.Core.Logic.{inl, ⊎-elim}
 use mathlib.Core.Path.{_≡_, refl, sym, ap, subst, _∙_}
 use lib.ListN.{length, length-append, length-map}
-use Rattle.records.specs.Layout.{objectPart, lengthFor, stateLayout, maxFacts, maxStateWords, attributeKinds, constantKinds, factKinds}
+use Rattle.records.specs.Layout.{objectPart, wordPart, lengthFor, maxFacts, maxStateWords, attributeKinds, constantKinds, factKinds}
 use Rattle.records.specs.Schema.{Schema}
 use Rattle.records.specs.StateRecord.{stateOf}
 use Rattle.records.specs.Refusal.{AcceptedState}
+use Rattle.records.specs.Encoding.{fact}
+use Rattle.records.proofs.EncodingLaws.{state-objects, state-length}
 use Rattle.chase.specs.ClassSet.{has}
 use Rattle.chase.specs.Task.{Task}
 use Rattle.chase.specs.Primary.{primary, clash}
@@ -19,7 +21,7 @@ use Rattle.chase.specs.Ground.{Ground, ground}
 use Rattle.chase.specs.Forest.{Forest, classesOf}
 use Rattle.chase.specs.Candidate.{objects, forest, candidate}
 use Rattle.chase.specs.Targets.{targets, pairs}
-use Rattle.chase.specs.Written.{wordPart, fact, nameFact, gather, classFacts, pairFacts, objectFacts, facts, written}
+use Rattle.chase.specs.Written.{nameFact, gather, classFacts, pairFacts, objectFacts, facts, written}
 use Rattle.chase.proofs.TestLaws.{cond-elim}
 use Rattle.chase.proofs.All.{All, Mem, all-map, all-mapped, all-of, mem-left, mem-right, mem-split, mem-mapped, mem-unmapped}
 use Rattle.chase.proofs.Ascending.{Ascends, Between, between-none, between-one, between-wider, between-append}
@@ -32,7 +34,6 @@ use Rattle.chase.proofs.TargetLaws.{candidate-targets, candidate-ascend
 use Rattle.chase.proofs.PairLaws.{pairs-bound, ground-edges}
 use Rattle.chase.proofs.GatherLaws.{gather-of, gather-is, gather-between, gather-bound, gather-rows}
 use Rattle.chase.proofs.Alike.{Alike}
-use Rattle.chase.proofs.RecordLaws.{record-objects, record-length}
 use Rattle.chase.proofs.FactList.{FactOf, ofClass, ofPair, ofName, Lists, Limited, list-accepted, list-alike}
 use Rattle.chase.specs.Bounds.{maxCandidate}
 
@@ -227,8 +228,8 @@ module _ (t : Task) (ok : Within t) where
       )
 
   pub written-length : length (written t) ≤ maxStateWords
-  unfolding written maxStateWords lengthFor stateLayout
-  written-length = omega (arith, record-length n (facts S G T), facts-few)
+  unfolding written maxStateWords lengthFor
+  written-length = omega (arith, state-length n (facts S G T), facts-few)
 
   -- The record.
 
@@ -244,7 +245,7 @@ module _ (t : Task) (ok : Within t) where
 
   pub written-size : stateOf (written t) .size ≡ candidate t .size
   unfolding stateOf written
-  written-size = record-objects n (facts S G T)
+  written-size = state-objects n (facts S G T)
 
   pub written-accepted : clash t ≡ false → AcceptedState (S .signature) (written t)
   unfolding written

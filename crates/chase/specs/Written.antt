@@ -1,30 +1,16 @@
--- The candidate as a state record. A fact is one number, its left word before its right word, so that facts ascend as these
--- numbers do.
-use Prim.Native.Nat.{ℕ, zero, suc, _+_, _*_, _/_, _%_}
+-- The candidate as a state record, by the list of its facts in ascending order.
+use Prim.Native.Nat.{ℕ, zero, suc, _+_}
 use mathlib.Core.Bool.{cond}
 use mathlib.Core.List.{List, [], _∷_, _++_, map}
-use lib.ListN.{length}
-use Rattle.records.specs.Layout.{objectPart, attributeKinds, constantKinds}
+use Rattle.records.specs.Layout.{attributeKinds, constantKinds}
 use Rattle.records.specs.Schema.{Schema}
+use Rattle.records.specs.Encoding.{fact, stateRecord}
 use Rattle.chase.specs.ClassSet.{has}
 use Rattle.chase.specs.Task.{Task}
 use Rattle.chase.specs.Ground.{Ground, ground}
 use Rattle.chase.specs.Forest.{Forest, classesOf}
 use Rattle.chase.specs.Candidate.{objects, forest}
 use Rattle.chase.specs.Targets.{targets}
-
--- one past the largest word
-abbrev pub wordPart : ℕ
-wordPart = 65_536
-
-abbrev pub fact : ℕ → ℕ → ℕ → ℕ
-fact kind d right = (kind * objectPart + d) * wordPart + right
-
-abbrev pub leftWord : ℕ → ℕ
-leftWord f = f / wordPart
-
-abbrev pub rightWord : ℕ → ℕ
-rightWord f = f % wordPart
 
 -- the lists f 0, f 1, .. in a row
 unfoldable pub gather : ℕ → (ℕ → List ℕ) → List ℕ
@@ -50,10 +36,6 @@ module _ (S : Schema) (G : Ground) (T : Forest) where
   -- then the constants
   unfoldable pub facts : List ℕ
   facts = objectFacts ++ gather (S .signature .constants) (λ a. nameFact a (G .constants a) ∷ [])
-
--- the record of a state of n objects with these facts
-unfoldable pub stateRecord : ℕ → List ℕ → List ℕ
-stateRecord n l = n ∷ length l ∷ map leftWord l ++ map rightWord l
 
 -- the candidate's record
 unfoldable pub written : Task → List ℕ

@@ -24,11 +24,12 @@ use Rattle.judge.specs.declared.counterexample.CounterexampleAnswer.{Counterexa
 use Rattle.judge.specs.declared.counterexample.CounterexampleAnswer.the-variants as counter
 use Rattle.judge.specs.Counterexample.{lowest, finding, counterexampleRefusals, counterexampleAnswer}
 use Rattle.records.specs.Executable.{firstBroken}
+use Rattle.records.specs.Encoding.{stateRecord}
 use lib.Dec.{eqb, ltb}
 use Rattle.judge.proofs.Exactness.{accepted-names, found-exact, none-exact}
 use Rattle.chase.specs.Task.{taskOf}
 use Rattle.chase.specs.Primary.{clash}
-use Rattle.chase.specs.Written.{stateRecord, written}
+use Rattle.chase.specs.Written.{written}
 use Rattle.chase.proofs.Judged.{written-judged, clash-judged}
 use Rattle.chase.proofs.Answers.{is-small}
 use Rattle.chase.proofs.AcceptanceLaws.{Within, accepted-within}

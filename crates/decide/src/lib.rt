@@ -15,9 +15,9 @@ ghost use mathlib.Core.Path.{_≡_};
 ghost use Prim.Native.Nat.{_≤_};
 ghost use lib.ListN.{length};
 ghost use Rattle.records.specs.Layout.{maxStateWords, maxFacts, maxObjects};
+ghost use Rattle.records.specs.Encoding.{stateRecord};
 ghost use Rattle.judge.specs.Counterexample.{counterexampleAnswer};
 ghost use Rattle.chase.specs.Task.{taskOf};
-ghost use Rattle.chase.specs.Written.{stateRecord};
 ghost use Rattle.decide.specs.Decision.{Verdict, Decision};
 ghost use Rattle.construct.specs.Listed.{Triple, Candidate};
 

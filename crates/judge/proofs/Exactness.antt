@@ -26,7 +26,7 @@ use Rattle.records.specs.Executable.{isIn, holds, firstBroken}
 use Rattle.records.specs.StateRecord.{objects, stateOf}
 use Rattle.records.specs.Refusal.{namesAt, misnames, refusal-10, AcceptedState}
 use Rattle.records.proofs.BoolLaws.{or-false-right, false-of, not-of-false}
-use Rattle.records.proofs.FiniteLaws.{any-found, any-none, count-found, least-le, least-passes, least-first, least-is}
+use Rattle.records.proofs.FiniteLaws.{any-found, any-none, count-found, count-same, least-le, least-passes, least-first, least-is}
 use Rattle.records.proofs.ExecutableLaws.{isIn-iff, holds-iff, first-broken-none, first-broken-at, first-broken-before}
 use Rattle.records.proofs.OutcomeLaws.{first-passed, outcome-refused, outcome-answered, passed-state, passed-lent}
 use Rattle.records.proofs.AcceptedLaws.{passes-8, passes-10, fact-faultless, constant-once}
@@ -36,7 +36,6 @@ use Rattle.judge.specs.Counterexample.{separates, lowest, finding, count
 use Rattle.judge.specs.LegalState.{judgement, legalRefusals, legalAnswer}
 use Rattle.judge.specs.Exact.{Selected, FirstBroken, Judged, Lowest, Found, SelectExact, LegalExact, CounterexampleExact}
 use Rattle.judge.proofs.MarkLaws.{marks-length}
-use Rattle.judge.proofs.SelectLaws.{count-same}
 use Rattle.judge.specs.declared.select.SelectAnswer.the-variants as select
 use Rattle.judge.specs.declared.legal.LegalAnswer.{LegalAnswer}
 use Rattle.judge.specs.declared.counterexample.CounterexampleAnswer.{CounterexampleAnswer}

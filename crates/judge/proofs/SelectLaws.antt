@@ -11,15 +11,11 @@ use Rattle.records.specs.Layout.{objectPart}
 use Rattle.records.specs.State.{State}
 use Rattle.records.specs.Concept.{Concept}
 use Rattle.records.specs.Executable.{isIn}
+use Rattle.records.proofs.FiniteLaws.{count-same}
 use Rattle.index.specs.BitSet.{bitAt}
 use Rattle.evaluate.specs.Selection.{Selection}
 use Rattle.judge.specs.declared.select.SelectAnswer.the-variants.{Selected}
 use Rattle.judge.specs.Select.{marks, selection}
-
-pub count-same : (f g : ℕ → Bool) (n : ℕ) → ((i : ℕ) → i < n → f i ≡ g i) → count n f ≡ count n g
-unfolding count
-count-same f g zero h = refl
-count-same f g (suc n) h = rw (h n (omega arith), count-same f g n (λ i l. h i (omega arith)))
 
 marks-same : (f g : ℕ → Bool) (n : ℕ) → ((i : ℕ) → i < n → f i ≡ g i) → marks f n ≡ marks g n
 unfolding marks

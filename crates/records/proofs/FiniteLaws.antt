@@ -205,3 +205,8 @@ any-same f g (suc n) h = pick (any n f) refl (any-same f g n (λ i l. h i (omega
     pick : (t : Bool) → any n f ≡ t → any n f ≡ any n g → (any n f || f n) ≡ (any n g || g n)
     pick true e q = rw (← q, e)
     pick false e q = rw (← q, e) (h n (omega arith) (any-none f n e))
+
+pub count-same : (f g : ℕ → Bool) (n : ℕ) → ((i : ℕ) → i < n → f i ≡ g i) → count n f ≡ count n g
+unfolding count
+count-same f g zero h = refl
+count-same f g (suc n) h = rw (h n (omega arith), count-same f g n (λ i l. h i (omega arith)))

@@ -3,6 +3,7 @@ pub mod BoolLaws
 pub mod FiniteLaws
 pub mod ExecutableLaws
 pub mod NamesLaws
+pub mod EncodingLaws
 pub mod RefusalLaws
 pub mod OutcomeLaws
 pub mod AcceptedLaws

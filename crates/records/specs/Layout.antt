@@ -70,7 +70,7 @@ maxFacts = 15_380
 unfoldable pub maxStateWords : ℕ
 maxStateWords = lengthFor stateLayout maxFacts
 
--- A word of two parts: what stands in front, and what is left of it, by how many numbers the second part has.
+-- A number of two parts: what stands in front, and what is left of it, by how many numbers the second part has.
 -- the subject of an axiom, and the second of two names
 abbrev pub bytePart : ℕ
 bytePart = 256
@@ -78,6 +78,10 @@ bytePart = 256
 -- the object of a fact
 abbrev pub objectPart : ℕ
 objectPart = 512
+
+-- the right word of a fact that is one number
+abbrev pub wordPart : ℕ
+wordPart = 65_536
 
 -- the first fact kind of attributes
 abbrev pub attributeKinds : ℕ

@@ -12,6 +12,7 @@ pub mod Layout
 pub mod SchemaRecord
 pub mod ConceptRecord
 pub mod StateRecord
+pub mod Encoding
 -- Turned back, in checking order.
 pub mod Refusal
 pub mod Outcome

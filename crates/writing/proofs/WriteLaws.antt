@@ -7,7 +7,7 @@ use lib.ListN.{length, take, drop, set, length-map, length-set, length-drop, dro
 use lib.Seq.{take-at, drop-at, drop-drop}
 use borrow.Rule.Slice.PartAt.{part-to-end}
 use borrow.Rule.Slice.PartMut.{midOf, putMid}
-use Rattle.chase.specs.Written.{leftWord, rightWord, stateRecord}
+use Rattle.records.specs.Encoding.{recordOf, leftWord, rightWord, stateRecord}
 
 -- the words from place a to the end, lent and given back as ys
 rest-back : (xs : List ℕ) (a : ℕ) (ys : List ℕ) → putMid a (length xs - a) xs ys ≡ take a xs ++ ys
@@ -45,7 +45,7 @@ sized-room lent x y n h =
 pub write-all : (n : ℕ) (l lent : List ℕ) (x y : ℕ) (part : List ℕ) → 2 + 2 * length l ≤ length lent → x ≡ n → y ≡ length l
     → part ≡ map leftWord l ++ map rightWord l ++ drop (2 * length l) (midOf 2 (length (sized lent x y) - 2) (sized lent x y))
     → putMid 2 (length (sized lent x y) - 2) (sized lent x y) part ≡ stateRecord n l ++ drop (2 + 2 * length l) lent
-unfolding stateRecord
+unfolding stateRecord recordOf
 write-all n l [] x y part h p q r = absurd (omega arith)
 write-all n l (a ∷ []) x y part h p q r = absurd (omega arith)
 write-all n l (a ∷ b ∷ lent) x y part h p q r =

@@ -1,6 +1,6 @@
 -- The two words of a fact (the enum of src/lib.rt).
 use Prim.Native.Nat.{ℕ}
-use Rattle.chase.specs.Written.{leftWord, rightWord}
+use Rattle.records.specs.Encoding.{leftWord, rightWord}
 use Rattle.writing.specs.declared.Half.{Half}
 use Rattle.writing.specs.declared.Half.the-variants.{Left, Right}
 

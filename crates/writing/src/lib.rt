@@ -5,7 +5,7 @@ ghost use mathlib.Core.Path.{_≡_};
 ghost use mathlib.Core.List.{map, _++_};
 ghost use Prim.Native.Nat.{_+_, _*_, _<_, _≤_, _^_};
 ghost use lib.ListN.{length, drop};
-ghost use Rattle.chase.specs.Written.{leftWord, rightWord, stateRecord};
+ghost use Rattle.records.specs.Encoding.{leftWord, rightWord, stateRecord};
 ghost use Rattle.writing.specs.Half.{wordOf};
 
 // The two words of a fact.

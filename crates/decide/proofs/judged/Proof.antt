@@ -2,7 +2,7 @@
 use borrow.Author.Needs.{needs}
 use mathlib.Core.Path.{_∙_, ap}
 use Rattle.judge.specs.Counterexample.{counterexampleAnswer}
-use Rattle.chase.specs.Written.{stateRecord}
+use Rattle.records.specs.Encoding.{stateRecord}
 use Rattle.decide.proofs.PrefixLaws.{prefix-fits, prefix-is, prefix-length}
 use Rattle.decide.proofs.judged.Statement.{statement}
 use Rattle.decide.proofs.judged.Tie as tie

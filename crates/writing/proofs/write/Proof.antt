@@ -4,7 +4,7 @@ use native.Mathlib.Omega.{arith}
 use mathlib.Core.Path.{sym, _∙_}
 use lib.Seq.{lt-length-set}
 use Rattle.records.specs.Layout.{lengthFor, stateLayout}
-use Rattle.chase.proofs.RecordLaws.{record-length}
+use Rattle.records.proofs.EncodingLaws.{state-length}
 use Rattle.writing.proofs.WriteLaws.{sized-length, sized-room, write-all}
 use Rattle.writing.proofs.write.Statement.{statement}
 use Rattle.writing.proofs.write.Tie as tie
@@ -46,7 +46,7 @@ returns : tie.Need-returns
 unfolding lengthFor stateLayout
 returns c =
     let a = c .before .before .before .before .before .before .before .before .args in (
-      sym (record-length (a .objects) (a .facts .now)),
+      sym (state-length (a .objects) (a .facts .now)),
       write-all (a .objects) (a .facts .now) (a .lent .now) (c .before .before .before .before .before .narrow .result) (c .before .before .before .before .narrow2 .result) (c .before .before .fill .last .1 .0) (c .before .before .before .before .before .before .before .before .pre .2)
           (c .before .before .before .before .before .narrow .ensures) (c .before .before .before .before .narrow2 .ensures) (c .before .before .fill .ensures),
     )

@@ -1,0 +1,50 @@
+-- Document 01, "Records", the other way: a record from its sizes and its entries. That it reads back as these is proved once,
+-- over the layout (proofs/EncodingLaws.antt).
+use Prim.Native.Nat.{ℕ, _+_, _*_, _/_, _%_}
+use mathlib.Core.List.{List, [], _∷_, _++_, map}
+use lib.ListN.{length, getD}
+use Rattle.records.specs.declared.schema.Signature.{Signature}
+use Rattle.records.specs.Finite.{count}
+use Rattle.records.specs.Layout.{objectPart, wordPart}
+use Rattle.records.specs.ConceptRecord.{tokenOf}
+use Rattle.records.specs.Refusal.{isStep}
+
+-- The size words, then the left word of each entry, then the right words.
+unfoldable pub recordOf : {E : Type 0} → (E → ℕ) → (E → ℕ) → List ℕ → List E → List ℕ
+recordOf left right sizes l = sizes ++ map left l ++ map right l
+
+-- An entry as its two words.
+abbrev pub Words : Type 0
+Words = ℕ × ℕ
+
+abbrev pub leftOf : Words → ℕ
+leftOf e = e .0
+
+abbrev pub rightOf : Words → ℕ
+rightOf e = e .1
+
+unfoldable pub schemaRecord : Signature → List Words → List ℕ
+schemaRecord s axioms =
+    recordOf leftOf rightOf (s .classes ∷ s .attributes ∷ s .constants ∷ length axioms ∷ []) axioms
+
+-- the tokens that are steps
+unfoldable pub stepsIn : List Words → ℕ
+stepsIn tokens =
+    count (length tokens) λ i. isStep (tokenOf (leftOf (getD tokens i (0, 0))) (rightOf (getD tokens i (0, 0))))
+
+unfoldable pub conceptRecord : List Words → List ℕ
+conceptRecord tokens = recordOf leftOf rightOf (length tokens ∷ stepsIn tokens ∷ []) tokens
+
+-- A fact as one number, its left word before its right word, so that facts ascend as these numbers do.
+abbrev pub fact : ℕ → ℕ → ℕ → ℕ
+fact kind d right = (kind * objectPart + d) * wordPart + right
+
+abbrev pub leftWord : ℕ → ℕ
+leftWord f = f / wordPart
+
+abbrev pub rightWord : ℕ → ℕ
+rightWord f = f % wordPart
+
+-- of n objects with these facts
+unfoldable pub stateRecord : ℕ → List ℕ → List ℕ
+stateRecord n facts = recordOf leftWord rightWord (n ∷ length facts ∷ []) facts
