@@ -8,12 +8,12 @@ use mathlib.Core.List.{List, [], _∷_, _++_, map}
 use mathlib.Core.Logic.{inl, ⊎-elim}
 use mathlib.Core.Path.{_≡_, refl, sym, ap, subst, _∙_}
 use lib.ListN.{length, length-append, length-map}
-use Rattle.records.specs.Layout.{objectPart, wordPart, lengthFor, maxFacts, maxStateWords, attributeKinds, constantKinds, factKinds}
+use Rattle.records.specs.Layout.{objectPart, wordPart, maxFacts, maxStateWords, attributeKinds, constantKinds, factKinds}
 use Rattle.records.specs.Schema.{Schema}
 use Rattle.records.specs.StateRecord.{stateOf}
 use Rattle.records.specs.Refusal.{AcceptedState}
 use Rattle.records.specs.Encoding.{fact}
-use Rattle.records.proofs.EncodingLaws.{state-objects, state-length}
+use Rattle.records.proofs.EncodingLaws.{state-fits, state-objects, state-length}
 use Rattle.chase.specs.ClassSet.{has}
 use Rattle.chase.specs.Task.{Task}
 use Rattle.chase.specs.Primary.{primary, clash}
@@ -228,8 +228,8 @@ module _ (t : Task) (ok : Within t) where
       )
 
   pub written-length : length (written t) ≤ maxStateWords
-  unfolding written maxStateWords lengthFor
-  written-length = omega (arith, state-length n (facts S G T), facts-few)
+  unfolding written
+  written-length = omega (arith, state-length n (facts S G T), state-fits (length (facts S G T)) facts-few)
 
   -- The record.
 

@@ -10,7 +10,7 @@ use records::schema::SchemaAnswer;
 use records::schema::check_schema;
 use records::state::MAX_FACTS;
 use records::state::STATE_WORDS;
-use writing::write;
+use records::writing::write;
 ghost use mathlib.Core.Path.{_≡_};
 ghost use Prim.Native.Nat.{_≤_};
 ghost use lib.ListN.{length};

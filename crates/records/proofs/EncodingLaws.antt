@@ -1,6 +1,6 @@
 -- What is read from a record that was made from its sizes and entries: over any layout of as many size words, of which the
 -- counter's is the number of entries (Sizes), and from there of the three records.
-use Prim.Native.Nat.{ℕ, zero, suc, _+_, _*_, _/_, _%_, _<_}
+use Prim.Native.Nat.{ℕ, zero, suc, _+_, _*_, _/_, _%_, _≤_, _<_}
 use native.Mathlib.Omega.{arith}
 use mathlib.Core.Bool.{false}
 use mathlib.Core.List.{List, [], _∷_, _++_, map}
@@ -11,7 +11,7 @@ use borrow.Author.Tests.{eq-eqb, le-ltb}
 use Rattle.records.specs.declared.layout.Layout.{Layout}
 use Rattle.records.specs.declared.schema.Signature.{Signature}
 use Rattle.records.specs.Finite.{count}
-use Rattle.records.specs.Layout.{schemaLayout, conceptLayout, stateLayout, sizeAt, entries, leftAt, rightAt, lengthFor, objectPart, wordPart}
+use Rattle.records.specs.Layout.{schemaLayout, conceptLayout, stateLayout, sizeAt, entries, leftAt, rightAt, lengthFor, maxFacts, maxStateWords, objectPart, wordPart}
 use Rattle.records.specs.SchemaRecord.{signatureOf, axiomOf, schemaOf}
 use Rattle.records.specs.ConceptRecord.{tokenOf, tokenAt}
 use Rattle.records.specs.StateRecord.{objects, kindAt, objectAt}
@@ -141,6 +141,16 @@ pub fact-parts : (k d r : ℕ) → d < objectPart → r < wordPart
 fact-parts k d r h j = omega arith
 
 -- The state.
+
+-- how many words n facts take, and that those of any accepted state are few
+pub state-words : (n : ℕ) → lengthFor stateLayout n ≡ 2 + 2 * n
+unfolding lengthFor stateLayout
+state-words n = refl
+
+pub state-fits : (n : ℕ) → n ≤ maxFacts → lengthFor stateLayout n ≤ maxStateWords
+unfolding lengthFor maxStateWords
+state-fits n h = omega arith
+
 module _ (n : ℕ) (l : List ℕ) where
   state-sizes : Sizes stateLayout (n ∷ length l ∷ []) (length l)
   unfolding stateLayout

@@ -13,5 +13,7 @@ pub mod PileLaws
 pub mod SpellingLaws
 pub mod ReadingLaws
 pub mod ReadingScanLaws
+pub mod PutLaws
+pub mod WriteLaws
 -- The twelve small states of document 01.
 pub mod Examples

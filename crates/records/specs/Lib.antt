@@ -24,3 +24,4 @@ pub mod Scan
 pub mod Steps
 pub mod Reading
 pub mod InRange
+pub mod Half

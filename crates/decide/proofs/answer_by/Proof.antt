@@ -2,7 +2,7 @@
 use borrow.Author.Needs.{needs}
 use mathlib.Core.Path.{_∙_, sym}
 use native.Mathlib.Omega.{arith}
-use Rattle.records.specs.Layout.{maxStateWords, lengthFor, stateLayout}
+use Rattle.records.proofs.EncodingLaws.{state-fits}
 use Rattle.decide.proofs.VerdictLaws.{candidate-few, candidate-small, verdict-by, verdict-not}
 use Rattle.decide.proofs.answer_by.Statement.{statement}
 use Rattle.decide.proofs.answer_by.Tie as tie
@@ -21,12 +21,11 @@ returns c =
     verdict-not _ _ _ ok _ _ made _ (c .before .judged .result) (c .before .judged .ensures) (c .match .keys2)
 
 write-requires : tie.Need-write-requires
-unfolding maxStateWords lengthFor stateLayout
 write-requires c κs =
     let (ok, made, room) = c .before .before .before .before .before .before .before .before .before .before .pre in
     let small = candidate-small _ _ _ ok _ _ made in
     let few = candidate-few _ _ _ ok _ _ made in
-    (omega (arith, small), omega (arith, few), omega (arith, few, room))
+    (omega (arith, small), omega (arith, few), omega (arith, state-fits _ few, room))
 
 same-length : tie.Need-same-length
 same-length c = search needs

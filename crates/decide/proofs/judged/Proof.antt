@@ -1,6 +1,9 @@
 -- The judge gets the words that were written, and no others.
 use borrow.Author.Needs.{needs}
 use mathlib.Core.Path.{_∙_, ap}
+use native.Mathlib.Omega.{arith}
+use lib.ListN.{length}
+use Rattle.records.proofs.EncodingLaws.{state-words}
 use Rattle.judge.specs.Counterexample.{counterexampleAnswer}
 use Rattle.records.specs.Encoding.{stateRecord}
 use Rattle.decide.proofs.PrefixLaws.{prefix-fits, prefix-is, prefix-length}
@@ -11,7 +14,8 @@ slice-aggregate-write : tie.Need-slice-aggregate-write
 slice-aggregate-write c = search needs
 
 write-requires : tie.Need-write-requires
-write-requires c κs = search needs
+write-requires c κs =
+    let a = c .before .before .before .before .before .args in (search needs, search needs, omega (arith, state-words (length (a .facts .now))))
 
 array-share-prefix-words : tie.Need-array-share-prefix-words
 array-share-prefix-words c = let a = c .before .before .before .before .before .before .before .args in prefix-fits (stateRecord (a .objects) (a .facts .now)) _ _ _ (c .before .write .ensures .1) (c .before .write .ensures .0)

@@ -1,12 +1,15 @@
-// Writes the record of a state from the list of its facts, each a number of two words (crate chase: Written). It changes the
+// Writes the record of a state from the list of its facts, each a number of two words (specs/Encoding). It changes the
 // lent words that the record takes, and no later ones.
-use records::layout::narrow;
+use crate::layout::narrow;
+use crate::state::STATE_SIZES;
+use crate::state::WORD_PART;
 ghost use mathlib.Core.Path.{_≡_};
 ghost use mathlib.Core.List.{map, _++_};
-ghost use Prim.Native.Nat.{_+_, _*_, _<_, _≤_, _^_};
+ghost use Prim.Native.Nat.{_*_, _<_, _≤_, _^_};
 ghost use lib.ListN.{length, drop};
+ghost use Rattle.records.specs.Layout.{stateLayout, lengthFor};
 ghost use Rattle.records.specs.Encoding.{leftWord, rightWord, stateRecord};
-ghost use Rattle.writing.specs.Half.{wordOf};
+ghost use Rattle.records.specs.Half.{wordOf};
 
 // The two words of a fact.
 enum Half {
@@ -14,14 +17,12 @@ enum Half {
     Right,
 }
 
-const WORD: u32 = 65_536;
-
 fn word_of(half: Half, fact: u32) -> u16
     ensures { λ r. ⌜ r ≡ wordOf half fact ⌝ }
 {
     match half {
-        Half::Left => (fact / WORD) as u16,
-        Half::Right => (fact % WORD) as u16,
+        Half::Left => (fact / WORD_PART) as u16,
+        Half::Right => (fact % WORD_PART) as u16,
     }
 }
 
@@ -48,13 +49,13 @@ fn fill(facts: &[u32], to: &mut [u16])
 
 // The sizes, then the words of the facts. The answer is how many words the record takes.
 pub fn write(objects: usize, facts: &[u32], lent: &mut [u16]) -> usize
-    requires { ⌜ (objects < 2 ^ 16) × (length (now facts) < 2 ^ 16) × (2 + 2 * length (now facts) ≤ length (now lent)) ⌝ }
+    requires { ⌜ (objects < 2 ^ 16) × (length (now facts) < 2 ^ 16) × (lengthFor stateLayout (length (now facts)) ≤ length (now lent)) ⌝ }
     ensures { λ r. ⌜ r ≡ length (stateRecord objects (now (facts .entry))) ⌝ }
     ensures { λ r. ⌜ now (lent .exit) ≡ stateRecord objects (now (facts .entry)) ++ drop r (now (lent .entry)) ⌝ }
 {
     let n = facts.len();
     lent[0] = narrow(objects);
     lent[1] = narrow(n);
-    fill(facts, &mut lent[2..]);
-    2 + 2 * n
+    fill(facts, &mut lent[STATE_SIZES..]);
+    STATE_SIZES + 2 * n
 }

@@ -1,8 +1,8 @@
 -- The right words are put to what is lent from the place after the last left word.
 use borrow.Author.Needs.{needs}
-use Rattle.writing.proofs.WriteLaws.{fill-all}
-use Rattle.writing.proofs.fill.Statement.{statement}
-use Rattle.writing.proofs.fill.Tie as tie
+use Rattle.records.proofs.WriteLaws.{fill-all}
+use Rattle.records.proofs.writing.fill.Statement.{statement}
+use Rattle.records.proofs.writing.fill.Tie as tie
 
 put-requires : tie.Need-put-requires
 put-requires c κs = search needs

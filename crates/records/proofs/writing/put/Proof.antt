@@ -4,10 +4,10 @@ use borrow.Author.Needs.{needs}
 use native.Mathlib.Omega.{arith}
 use mathlib.Core.Path.{_≡_, refl}
 use lib.ListN.{length, length-set}
-use Rattle.writing.specs.Half.{wordOf}
-use Rattle.writing.proofs.PutLaws.{puts, puts-more, puts-all}
-use Rattle.writing.proofs.put.Statement.{statement}
-use Rattle.writing.proofs.put.Tie as tie
+use Rattle.records.specs.Half.{wordOf}
+use Rattle.records.proofs.PutLaws.{puts, puts-more, puts-all}
+use Rattle.records.proofs.writing.put.Statement.{statement}
+use Rattle.records.proofs.writing.put.Tie as tie
 
 abbrev Inv-loop : tie.InvT-loop
 Inv-loop half facts to₀ n i₀ to i = (i ≤ n) × (to ≡ puts (wordOf half) facts to₀ i) × (length to ≡ length to₀)

@@ -1,7 +1,7 @@
 -- A case for each half.
 use borrow.Author.Needs.{needs}
-use Rattle.writing.proofs.word_of.Statement.{statement}
-use Rattle.writing.proofs.word_of.Tie as tie
+use Rattle.records.proofs.writing.word_of.Statement.{statement}
+use Rattle.records.proofs.writing.word_of.Tie as tie
 
 enum-told : tie.Need-enum-told
 enum-told c = search needs

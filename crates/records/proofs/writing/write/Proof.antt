@@ -2,30 +2,30 @@
 use borrow.Author.Needs.{needs}
 use native.Mathlib.Omega.{arith}
 use mathlib.Core.Path.{sym, _∙_}
+use lib.ListN.{length}
 use lib.Seq.{lt-length-set}
-use Rattle.records.specs.Layout.{lengthFor, stateLayout}
-use Rattle.records.proofs.EncodingLaws.{state-length}
-use Rattle.writing.proofs.WriteLaws.{sized-length, sized-room, write-all}
-use Rattle.writing.proofs.write.Statement.{statement}
-use Rattle.writing.proofs.write.Tie as tie
+use Rattle.records.proofs.EncodingLaws.{state-words, state-length}
+use Rattle.records.proofs.WriteLaws.{sized-length, sized-room, write-all}
+use Rattle.records.proofs.writing.write.Statement.{statement}
+use Rattle.records.proofs.writing.write.Tie as tie
 
 narrow-requires : tie.Need-narrow-requires
 narrow-requires c κs = search needs
 
 slice-write-lent : tie.Need-slice-write-lent
-slice-write-lent c = search needs
+slice-write-lent c = omega (arith, state-words (length (c .before .before .before .args .facts .now)))
 
 narrow-requires-2 : tie.Need-narrow-requires-2
 narrow-requires-2 c κs = search needs
 
 slice-write-lent-2 : tie.Need-slice-write-lent-2
-slice-write-lent-2 c = lt-length-set (c .before .before .before .before .args .lent .now) 0 _ (omega (arith, c .before .before .before .before .pre))
+slice-write-lent-2 c = lt-length-set (c .before .before .before .before .args .lent .now) 0 _ (omega (arith, c .before .before .before .before .pre, state-words (length (c .before .before .before .before .args .facts .now))))
 
 sub-fill : tie.Need-sub-fill
-sub-fill c = omega (arith, c .before .before .before .before .pre, sized-length (c .before .before .before .before .args .lent .now) (c .before .narrow .result) (c .narrow2 .result))
+sub-fill c = omega (arith, c .before .before .before .before .pre, state-words (length (c .before .before .before .before .args .facts .now)), sized-length (c .before .before .before .before .args .lent .now) (c .before .narrow .result) (c .narrow2 .result))
 
 part-fill-start : tie.Need-part-fill-start
-part-fill-start c = omega (arith, c .before .before .before .before .pre, sized-length (c .before .before .before .before .args .lent .now) (c .before .narrow .result) (c .narrow2 .result))
+part-fill-start c = omega (arith, c .before .before .before .before .pre, state-words (length (c .before .before .before .before .args .facts .now)), sized-length (c .before .before .before .before .args .lent .now) (c .before .narrow .result) (c .narrow2 .result))
 
 part-fill-end : tie.Need-part-fill-end
 part-fill-end c = search needs
@@ -43,10 +43,9 @@ same-length : tie.Need-same-length
 same-length c = c .before .lent .given .1 ∙ sized-length (c .before .before .before .before .before .before .before .before .args .lent .now) (c .before .before .before .before .before .narrow .result) (c .before .before .before .before .narrow2 .result)
 
 returns : tie.Need-returns
-unfolding lengthFor stateLayout
 returns c =
     let a = c .before .before .before .before .before .before .before .before .args in (
-      sym (state-length (a .objects) (a .facts .now)),
+      sym (state-length (a .objects) (a .facts .now) ∙ state-words (length (a .facts .now))),
       write-all (a .objects) (a .facts .now) (a .lent .now) (c .before .before .before .before .before .narrow .result) (c .before .before .before .before .narrow2 .result) (c .before .before .fill .last .1 .0) (c .before .before .before .before .before .before .before .before .pre .2)
           (c .before .before .before .before .before .narrow .ensures) (c .before .before .before .before .narrow2 .ensures) (c .before .before .fill .ensures),
     )
