@@ -2,4 +2,5 @@
 pub mod TestLaws
 pub mod BitLaws
 pub mod BitSetLaws
+pub mod KindLaws
 pub mod IndexLaws

@@ -3,21 +3,21 @@
 use Prim.Native.Nat.{ℕ, zero, suc, _-_, _≤_, _<_}
 use mathlib.Core.Bool.{So, false, false≢true}
 use mathlib.Core.List.{List}
-use mathlib.Core.Logic.{_⊎_, inl, inr, ⊎-elim, _↔_}
-use mathlib.Core.Path.{_≡_, refl, ap}
-use native.Mathlib.Nat.{eq-or-lt-of-le, le-of-suc-le-suc, le-of-eq, le-trans}
+use mathlib.Core.Logic.{⊎-elim, _↔_}
+use mathlib.Core.Path.{_≡_, refl}
 use native.Mathlib.Omega.{arith}
-use borrow.Author.Tests.{eq-eqb, eqb-true, ltb-true, lt-ltb}
+use borrow.Author.Tests.{eq-eqb, eqb-true, lt-ltb}
 use lib.Dec.{ltb}
 use Rattle.records.specs.declared.schema.Signature.{Signature}
 use Rattle.records.specs.Layout.{stateLayout, entries, leftAt, rightAt, maxObjects}
 use Rattle.records.specs.StateRecord.{objects, kindAt, objectAt, saysPair}
-use Rattle.records.specs.Refusal.{AcceptedState, faultyFact, ascends}
-use Rattle.records.proofs.BoolLaws.{or-true-cases, and-right, and-both, and-map, and-three-iff}
+use Rattle.records.specs.Refusal.{AcceptedState, faultyFact}
+use Rattle.records.proofs.BoolLaws.{and-right, and-both, and-three-iff}
 use Rattle.records.proofs.FiniteLaws.{any-iff}
 use Rattle.records.proofs.ExecutableLaws.{eqb-iff}
-use Rattle.records.proofs.AcceptedLaws.{passes-7, passes-8, passes-9, objects-few, fact-faultless, fact-ascends}
+use Rattle.records.proofs.AcceptedLaws.{passes-7, passes-8, objects-few, fact-faultless}
 use Rattle.records.proofs.StateScanLaws.{fact-object, fact-second}
+use Rattle.index.proofs.KindLaws.{ascends-cases, left-rises, left-grows}
 use Rattle.legality.specs.Breaks.{repeatsLeft}
 
 -- some fact is the pair (d, e) of kind k
@@ -46,22 +46,6 @@ module _ (s : Signature) (w : List ℕ) (ok : AcceptedState s w) where
 
   -- Order.
 
-  ascends-cases : (f : ℕ) → suc f < entries stateLayout w
-      → (leftAt stateLayout w f < leftAt stateLayout w (suc f)) ⊎ ((leftAt stateLayout w f ≡ leftAt stateLayout w (suc f)) × (rightAt stateLayout w f < rightAt stateLayout w (suc f)))
-  unfolding ascends
-  ascends-cases f l =
-      ⊎-elim (λ t. inl (ltb-true _ _ t)) (λ t. inr (and-map (eqb-true _ _) (ltb-true _ _) t))
-      (or-true-cases (ltb (leftAt stateLayout w f) (leftAt stateLayout w (suc f))) _ (fact-ascends w (passes-9 s w ok) f (omega arith)))
-
-  left-rises : (f : ℕ) → suc f < entries stateLayout w → leftAt stateLayout w f ≤ leftAt stateLayout w (suc f)
-  left-rises f l = ⊎-elim (λ t. omega arith) (λ t. le-of-eq (t .0)) (ascends-cases f l)
-
-  pub left-grows : (f g : ℕ) → f ≤ g → g < entries stateLayout w → leftAt stateLayout w f ≤ leftAt stateLayout w g
-  left-grows f zero h l = le-of-eq (ap (leftAt stateLayout w) (omega arith))
-  left-grows f (suc g) h l =
-      ⊎-elim (λ e. le-of-eq (ap (leftAt stateLayout w) e)) (λ m. le-trans (left-grows f g (le-of-suc-le-suc m) (omega arith)) (left-rises g l))
-      (eq-or-lt-of-le h)
-
   -- the later of two facts of one left word has that word right before it
   pub repeats-of : (f g : ℕ) → f < g → g < entries stateLayout w → kindAt w f ≡ kindAt w g → objectAt w f ≡ objectAt w g → So (repeatsLeft w g)
   unfolding kindAt objectAt
@@ -69,7 +53,7 @@ module _ (s : Signature) (w : List ℕ) (ok : AcceptedState s w) where
   repeats-of f (suc g) m l p q =
       let e : suc g - 1 ≡ g = omega arith in
       and-both (ltb 0 (suc g)) _ (lt-ltb 0 (suc g) (omega arith))
-      (rw e (eq-eqb (leftAt stateLayout w g) (leftAt stateLayout w (suc g)) (omega (arith, left-grows f g (omega arith) (omega arith), left-rises g l))))
+      (rw e (eq-eqb (leftAt stateLayout w g) (leftAt stateLayout w (suc g)) (omega (arith, left-grows s w ok f g (omega arith) (omega arith), left-rises s w ok g l))))
 
   -- and there stands another value
   pub repeats-other : (f : ℕ) → f < entries stateLayout w → So (repeatsLeft w f)
@@ -79,4 +63,4 @@ module _ (s : Signature) (w : List ℕ) (ok : AcceptedState s w) where
   repeats-other (suc g) l t =
       let b : suc g - 1 ≡ g = omega arith in
       let e : leftAt stateLayout w g ≡ leftAt stateLayout w (suc g) = eqb-true _ _ (rw b at (and-right (ltb 0 (suc g)) _ t)) in
-      (g, omega arith, (omega arith, omega arith, ⊎-elim (λ p. absurd (omega arith)) (λ p. p .1) (ascends-cases g l)))
+      (g, omega arith, (omega arith, omega arith, ⊎-elim (λ p. absurd (omega arith)) (λ p. p .1) (ascends-cases s w ok g l)))

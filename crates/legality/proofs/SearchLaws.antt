@@ -20,11 +20,13 @@ use Rattle.records.proofs.BoolLaws.{false-of, not-of-false}
 use Rattle.records.proofs.FiniteLaws.{any-zero, any-still, any-none, none-any, least-is}
 use Rattle.records.proofs.ExecutableLaws.{holds-iff}
 use Rattle.records.proofs.AcceptedLaws.{axiom-in-range, passes-7, facts-few}
+use Rattle.index.specs.Kinds.{KindsRise, KindParts}
+use Rattle.index.proofs.KindLaws.{kinds-rise}
 use Rattle.legality.specs.Legality.{Judged}
 use Rattle.legality.specs.Breaks.{objectBreaks, pairBreaks}
-use Rattle.legality.specs.Asked.{objectsAsked, kindAsked, KindsRise, KindParts}
+use Rattle.legality.specs.Asked.{objectsAsked, kindAsked}
 use Rattle.legality.proofs.BreakLaws.{object-broken, pair-broken, unbroken}
-use Rattle.legality.proofs.AskedLaws.{objects-asked-few, objects-asked-all, pairs-before, pairs-after, kinds-rise}
+use Rattle.legality.proofs.AskedLaws.{objects-asked-few, objects-asked-all, pairs-before, pairs-after}
 
 -- axiom i is broken
 abbrev pub brokenAt : Schema → State → ℕ → Bool

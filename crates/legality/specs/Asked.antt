@@ -1,10 +1,8 @@
--- Which objects and which facts the search asks about at an axiom, and where the facts of a kind stand.
-use Prim.Native.Nat.{ℕ, _+_, _≤_, _<_}
-use mathlib.Core.List.{List}
+-- Which objects and which facts the search asks about at an axiom.
+use Prim.Native.Nat.{ℕ, _+_}
 use Rattle.records.specs.declared.schema.Axiom.{Axiom}
 use Rattle.records.specs.declared.schema.Axiom.the-variants.{Subclass, Typing, Necessary, Single, Relates}
-use Rattle.records.specs.Layout.{stateLayout, entries, attributeKinds, factKinds}
-use Rattle.records.specs.StateRecord.{kindAt}
+use Rattle.records.specs.Layout.{attributeKinds, factKinds}
 
 -- how many of n objects; none where only pairs can break the axiom
 abbrev pub objectsAsked : Axiom → ℕ → ℕ
@@ -21,14 +19,3 @@ kindAsked (Typing A P B) = attributeKinds + P
 kindAsked (Necessary A P) = factKinds
 kindAsked (Single A P) = attributeKinds + P
 kindAsked (Relates P A B) = attributeKinds + P
-
--- no fact has a lower kind than one before it
-abbrev pub KindsRise : List ℕ → Type 0
-KindsRise w = (f g : ℕ) → f ≤ g → g < entries stateLayout w → kindAt w f ≤ kindAt w g
-
--- The facts before low have lower kinds than k, and those from high on do not. Where the two meet the row of k begins.
-pub record KindParts (w : List ℕ) (k low high : ℕ) : Type 0 where
-  pub ordered : low ≤ high
-  pub within : high ≤ entries stateLayout w
-  pub lower : (f : ℕ) → f < low → kindAt w f < k
-  pub rest : (f : ℕ) → high ≤ f → f < entries stateLayout w → k ≤ kindAt w f

@@ -1,14 +1,11 @@
-// Which objects and which facts can break an axiom: all objects or none, and the facts of one kind. The facts of an
-// accepted state ascend, so those of one kind stand in a row, and halving finds where it begins.
+// Which objects and which facts can break an axiom: all objects or none, and the facts of one kind.
 use records::schema::Axiom;
 use records::state::ATTRIBUTE_KINDS;
 use records::state::FACT_KINDS;
-use records::state::facts;
-use records::state::kind_at;
 ghost use mathlib.Core.Path.{_≡_};
 ghost use Rattle.records.specs.Word.{IsWord};
 ghost use Rattle.records.specs.InRange.{AxiomInRange};
-ghost use Rattle.legality.specs.Asked.{objectsAsked, kindAsked, KindsRise, KindParts};
+ghost use Rattle.legality.specs.Asked.{objectsAsked, kindAsked};
 
 // How many of the objects: none where only pairs can break the axiom.
 pub fn objects_asked(x: Axiom, objects: usize) -> usize
@@ -35,22 +32,4 @@ pub fn kind_asked(x: Axiom) -> usize
         Axiom::Single(_, p) => ATTRIBUTE_KINDS + p,
         Axiom::Relates(p, _, _) => ATTRIBUTE_KINDS + p,
     }
-}
-
-// The place of the first fact of this kind or a higher one, or the number of facts.
-pub fn first_of_kind(state: &[u16], kind: usize) -> usize
-    requires { ⌜ KindsRise (now state) ⌝ }
-    ensures { λ r. ⌜ KindParts (now (state .entry)) kind r r ⌝ }
-{
-    let mut low = 0;
-    let mut high = facts(state);
-    while low < high {
-        let middle = (low + high) / 2;
-        if kind_at(state, middle) < kind {
-            low = middle + 1;
-        } else {
-            high = middle;
-        }
-    }
-    low
 }

@@ -1,10 +1,10 @@
 // The first broken axiom of an accepted state under an accepted schema, by its place in the schema record.
 // For each axiom one pass over the objects or over the facts of its attribute; the first that breaks it ends the search.
-use asked::first_of_kind;
 use asked::kind_asked;
 use asked::objects_asked;
 use breaks::object_breaks;
 use breaks::pair_breaks;
+use index::kinds::first_of_kind;
 use index::left::TABLE_WORDS;
 use records::schema::Signature;
 use records::schema::axiom_at;

@@ -2,10 +2,10 @@
 -- settles the half before it or the half from it on.
 use Prim.Native.Nat.{_-_}
 use native.Mathlib.Omega.{arith}
-use Rattle.legality.specs.Asked.{KindParts}
-use Rattle.legality.proofs.AskedLaws.{parts-none, parts-low, parts-high, parts-met}
-use Rattle.legality.proofs.asked.first_of_kind.Statement.{statement}
-use Rattle.legality.proofs.asked.first_of_kind.Tie as tie
+use Rattle.index.specs.Kinds.{KindParts}
+use Rattle.index.proofs.KindLaws.{parts-none, parts-low, parts-high, parts-met}
+use Rattle.index.proofs.kinds.first_of_kind.Statement.{statement}
+use Rattle.index.proofs.kinds.first_of_kind.Tie as tie
 
 abbrev Inv-loop : tie.InvT-loop
 Inv-loop state kind low₀ high₀ low high = KindParts state kind low high

@@ -1,0 +1,92 @@
+-- Where the facts of a kind stand: the facts of an accepted state ascend, so their kinds rise; each step of the halving keeps
+-- the parts; and a test that only facts of the kind pass is settled by the row between its two ends.
+use Prim.Native.Nat.{ℕ, zero, suc, _+_, _≤_, _<_}
+use mathlib.Core.Bool.{Bool, So, false}
+use mathlib.Core.List.{List}
+use mathlib.Core.Logic.{_⊎_, inl, inr, ⊎-elim}
+use mathlib.Core.Path.{_≡_, ap, subst}
+use native.Mathlib.Decide.{decLt}
+use native.Mathlib.Nat.{le-antisymm, le-of-eq, eq-or-lt-of-le, le-of-suc-le-suc, le-trans}
+use native.Mathlib.Omega.{arith}
+use borrow.Author.Tests.{eqb-true, ltb-true}
+use lib.Dec.{ltb}
+use Rattle.records.specs.declared.schema.Signature.{Signature}
+use Rattle.records.specs.Finite.{any}
+use Rattle.records.specs.Layout.{stateLayout, entries, leftAt, rightAt}
+use Rattle.records.specs.StateRecord.{kindAt}
+use Rattle.records.specs.Refusal.{AcceptedState, ascends}
+use Rattle.records.proofs.BoolLaws.{or-true-cases, and-map, false-of}
+use Rattle.records.proofs.FiniteLaws.{none-any, any-of, any-found}
+use Rattle.records.proofs.AcceptedLaws.{passes-9, fact-ascends}
+use Rattle.index.specs.Kinds.{KindsRise, KindParts}
+use Rattle.index.proofs.TestLaws.{test-same}
+
+-- The facts ascend.
+
+module _ (s : Signature) (w : List ℕ) (ok : AcceptedState s w) where
+  pub ascends-cases : (f : ℕ) → suc f < entries stateLayout w
+      → (leftAt stateLayout w f < leftAt stateLayout w (suc f)) ⊎ ((leftAt stateLayout w f ≡ leftAt stateLayout w (suc f)) × (rightAt stateLayout w f < rightAt stateLayout w (suc f)))
+  unfolding ascends
+  ascends-cases f l =
+      ⊎-elim (λ t. inl (ltb-true _ _ t)) (λ t. inr (and-map (eqb-true _ _) (ltb-true _ _) t))
+      (or-true-cases (ltb (leftAt stateLayout w f) (leftAt stateLayout w (suc f))) _ (fact-ascends w (passes-9 s w ok) f (omega arith)))
+
+  pub left-rises : (f : ℕ) → suc f < entries stateLayout w → leftAt stateLayout w f ≤ leftAt stateLayout w (suc f)
+  left-rises f l = ⊎-elim (λ t. omega arith) (λ t. le-of-eq (t .0)) (ascends-cases f l)
+
+  pub left-grows : (f g : ℕ) → f ≤ g → g < entries stateLayout w → leftAt stateLayout w f ≤ leftAt stateLayout w g
+  left-grows f zero h l = le-of-eq (ap (leftAt stateLayout w) (omega arith))
+  left-grows f (suc g) h l =
+      ⊎-elim (λ e. le-of-eq (ap (leftAt stateLayout w) e)) (λ m. le-trans (left-grows f g (le-of-suc-le-suc m) (omega arith)) (left-rises g l))
+      (eq-or-lt-of-le h)
+
+  pub kinds-rise : KindsRise w
+  unfolding kindAt
+  kinds-rise f g h l = omega (arith, left-grows f g h l)
+
+-- Each step of the halving keeps the parts.
+
+pub parts-none : (w : List ℕ) (k : ℕ) {n : ℕ} → n ≡ entries stateLayout w → KindParts w k 0 n
+parts-none w k e =
+    record { ordered = omega arith; within = le-of-eq e; lower = λ f l. absurd (omega arith); rest = λ f h l. absurd (omega arith) }
+
+module _ (w : List ℕ) (k low high middle : ℕ) (up : KindsRise w) (p : KindParts w k low high) (a : low ≤ middle) (b : middle < high) where
+  pub parts-low : kindAt w middle < k → KindParts w k (middle + 1) high
+  parts-low m =
+      record {
+        ordered = omega arith;
+        within = p .within;
+        lower = λ f l. omega (arith, m, up f middle (omega arith) (omega (arith, b, p .within)));
+        rest = p .rest;
+      }
+
+  pub parts-high : k ≤ kindAt w middle → KindParts w k low middle
+  parts-high m =
+      record {
+        ordered = a;
+        within = omega (arith, b, p .within);
+        lower = p .lower;
+        rest = λ f h l. omega (arith, m, up middle f h l);
+      }
+
+pub parts-met : (w : List ℕ) (k : ℕ) {low high : ℕ} → KindParts w k low high → high ≤ low → KindParts w k low low
+parts-met w k {low} {high} p h = subst (KindParts w k low) (le-antisymm h (p .ordered)) p
+
+-- The row of a kind.
+
+module _ (w : List ℕ) {k : ℕ} where
+  pub kind-within : {from to : ℕ} → KindParts w k from from → KindParts w (k + 1) to to → (i : ℕ) → from ≤ i → i < to → kindAt w i ≡ k
+  kind-within p q i h l = omega (arith, p .rest i h (omega (arith, q .within)), q .lower i l)
+
+  module _ (f : ℕ → Bool) (of : (i : ℕ) → So (f i) → kindAt w i ≡ k) where
+    pub kind-before : {from : ℕ} → KindParts w k from from → any from f ≡ false
+    kind-before {from} p = none-any f from λ i l. false-of _ λ t. omega (arith, of i t, p .lower i l)
+
+    pub kind-after : {to : ℕ} → KindParts w (k + 1) to to → any (entries stateLayout w) f ≡ any to f
+    kind-after {to} p =
+        test-same _ _ (λ t. let (i, l, e) = any-found f (entries stateLayout w) t in any-of f to i (below i l e (decLt i to)) e)
+        (λ t. let (i, l, e) = any-found f to t in any-of f (entries stateLayout w) i (omega (arith, p .within)) e)
+      where
+        below : (i : ℕ) → i < entries stateLayout w → So (f i) → Dec (i < to) → i < to
+        below i l e (yes m) = m
+        below i l e (no n) = absurd (omega (arith, of i e, p .rest i (omega arith) l))
