@@ -11,7 +11,7 @@ use lib.Seq.{getD-at}
 use borrow.Author.Tests.{eqb-true, eqb-false}
 use Rattle.records.specs.Finite.{count}
 use Rattle.records.proofs.BoolLaws.{false-of}
-use Rattle.records.proofs.FiniteLaws.{none-count, count-mono, count-next, count-same}
+use Rattle.records.proofs.FiniteLaws.{none-count, count-mono, count-next, count-still}
 pub use Rattle.records.proofs.FiniteLaws.{count-le, any-of, any-found}
 use Rattle.chase.specs.Loops.{upto}
 use Rattle.chase.specs.Ground.{listing}
@@ -32,7 +32,7 @@ module _ (test : ℕ → Bool) where
   count-once (suc n) i h p only =
       elim (decLt i n) [
         | yes k ↦
-            count-same test n (false-of (test n) (λ q. omega (arith, only n (omega arith) q)))
+            count-still test n (false-of (test n) (λ q. omega (arith, only n (omega arith) q)))
             ∙ count-once n i k p (λ j l q. only j (omega arith) q)
         | no k ↦
             let e : i ≡ n = omega arith in
@@ -52,7 +52,7 @@ module _ (test : ℕ → Bool) where
       cond-elim X (test n)
       (λ p. cond-elim X (eqb (count n test) d) (λ e. (omega arith, p, eqb-true (count n test) d e))
       (λ e. let ne : ¬ (count n test ≡ d) = eqb-false (count n test) d e in before (pick-is n d (omega (arith, count-next test n p)))))
-      (λ p. before (pick-is n d (omega (arith, count-same test n p))))
+      (λ p. before (pick-is n d (omega (arith, count-still test n p))))
     where
       X : ℕ → Type 0
       X i = (i < suc n) × So (test i) × (count i test ≡ d)

@@ -33,9 +33,9 @@ module _ (f : ℕ → Bool) where
   unfolding count
   count-next n h = ap (λ (b : Bool). cond b (suc (count n f)) (count n f)) h
 
-  pub count-same : (n : ℕ) → f n ≡ false → count (suc n) f ≡ count n f
+  pub count-still : (n : ℕ) → f n ≡ false → count (suc n) f ≡ count n f
   unfolding count
-  count-same n h = ap (λ (b : Bool). cond b (suc (count n f)) (count n f)) h
+  count-still n h = ap (λ (b : Bool). cond b (suc (count n f)) (count n f)) h
 
   pub count-le : (n : ℕ) → count n f ≤ n
   unfolding count

@@ -12,7 +12,7 @@ use Rattle.records.specs.ConceptRecord.{Item, concept, path, tokenAt}
 use Rattle.records.specs.Refusal.{isStep, stepAt}
 use Rattle.records.specs.Steps.{conceptSteps, pathSteps}
 use Rattle.records.specs.Reading.{startOf, stepToken, stepNumber}
-use Rattle.records.proofs.FiniteLaws.{count-next, count-same}
+use Rattle.records.proofs.FiniteLaws.{count-next, count-still}
 use Rattle.records.proofs.PileLaws.{lastToken, operands, Ends, at-suc, ends-token, ends-none, ends-one, ends-two}
 
 module _ (w : List ℕ) where
@@ -94,7 +94,7 @@ module _ (w : List ℕ) where
   step-next e t q h = count-next (stepAt w) e (ap isStep q ∙ h)
 
   step-same : (e : ℕ) (t : Token) → tokenAt w e ≡ t → isStep t ≡ false → stepNumber w (suc e) ≡ stepNumber w e
-  step-same e t q h = count-same (stepAt w) e (ap isStep q ∙ h)
+  step-same e t q h = count-still (stepAt w) e (ap isStep q ∙ h)
 
   step-step : (r : Direction) (P : ℕ) → isStep (stepToken r P) ≡ true
   step-step forward P = refl
