@@ -2,14 +2,16 @@
 use Prim.Native.Nat.{ℕ, zero, suc, _<_}
 use native.Mathlib.Omega.{arith}
 use mathlib.Core.Bool.{Bool, true, false, _&&_, _||_, Bool·beq, false≢true}
-use mathlib.Core.List.{List, [], _∷_}
+use mathlib.Core.List.{List, [], _∷_, map}
 use mathlib.Core.Path.{_≡_, refl}
-use lib.ListN.{length, getD}
 use Rattle.records.specs.declared.schema.Axiom.{Axiom}
 use Rattle.records.specs.declared.schema.Axiom.the-variants.{Subclass, Typing, Necessary, Single, Relates}
 use Rattle.records.specs.Finite.{any, count}
 use Rattle.records.specs.Schema.{Schema}
 use Rattle.records.specs.Concept.{forward, backward, Concept, class, everything, constant, both, reached, common, Path, empty, step}
+use Rattle.records.specs.Layout.{schemaLayout, sizeAt, entries, leftAt, rightAt}
+use Rattle.records.specs.SchemaRecord.{signatureOf, axiomKind, axiomOf, schemaOf}
+use Rattle.records.specs.Encoding.{recordOf, schemaRecord, axiomWords}
 use Rattle.records.specs.Executable.{isIn}
 use Rattle.chase.specs.Loops.{each, anyOf, upto, settle}
 use Rattle.chase.specs.ClassSet.{place, meets, has, full}
@@ -29,12 +31,12 @@ verdict : Task → Bool
 verdict t = clash t || isIn (candidate t) (t .view) (first t)
 
 schemaFrom : ℕ → ℕ → ℕ → List Axiom → Schema
-schemaFrom classes attributes constants axioms =
-    record {
-      signature = record { classes = classes; attributes = attributes; constants = constants };
-      axioms = length axioms;
-      axiomAt = λ i. getD axioms i (Subclass 0 0);
-    }
+schemaFrom classes attributes constants axioms = schemaOf (schemaRecord classes attributes constants (map axiomWords axioms))
+
+-- to unfold this is to read such a schema
+read : Unit {0}
+unfolding schemaFrom schemaOf signatureOf axiomKind axiomOf schemaRecord recordOf schemaLayout sizeAt entries leftAt rightAt
+read = tt
 
 record Row : Type 0 where
   schema : Schema
@@ -129,7 +131,7 @@ unfolding verdict clash repeats primary settled begin settle upto each repOf set
 model = tt
 
 rows-agree : agrees rows ≡ true
-unfolding model agrees rows sixSteps letters viewPatient queryPatient medical some back to schemaFrom
+unfolding model read agrees rows sixSteps letters viewPatient queryPatient medical some back to
 rows-agree = refl
 
 -- The hypotheses of the theorems can be met: the second row once more, as a theorem on all states, and with another view
@@ -138,7 +140,7 @@ needing : Concept → Task
 needing view = record { schema = letters (Necessary 0 0 ∷ Relates 0 1 2 ∷ []); query = class 0; view = view }
 
 needing-formed : (view : Concept) → WellFormed (needing view)
-unfolding needing letters schemaFrom
+unfolding read needing letters
 needing-formed view = record { axioms = declared; query = omega arith }
   where
     declared : (i : ℕ) → i < 2 → DeclaredAxiom (needing view .schema .signature) (needing view .schema .axiomAt i)
@@ -147,11 +149,11 @@ needing-formed view = record { axioms = declared; query = omega arith }
     declared (suc (suc i)) h = absurd (omega arith)
 
 needing-held : Held (needing (class 1) .schema) (class 0) (class 1)
-unfolding model needing letters schemaFrom
+unfolding model read needing letters
 needing-held = says-held (needing (class 1)) (needing-formed (class 1)) refl
 
 needing-open : Open (needing (class 2) .schema) (class 0) (class 2)
-unfolding model needing letters schemaFrom
+unfolding model read needing letters
 needing-open = (
   candidate (needing (class 2)),
   first (needing (class 2)),

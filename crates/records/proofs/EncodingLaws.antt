@@ -9,14 +9,16 @@ use lib.ListN.{length, getD, length-append, length-map, List·getD-append}
 use lib.Seq.{getD-append-add}
 use borrow.Author.Tests.{eq-eqb, le-ltb}
 use Rattle.records.specs.declared.layout.Layout.{Layout}
-use Rattle.records.specs.declared.schema.Signature.{Signature}
+use Rattle.records.specs.declared.schema.Axiom.{Axiom}
+use Rattle.records.specs.declared.schema.Axiom.the-variants.{Subclass, Typing, Necessary, Single, Relates}
 use Rattle.records.specs.Finite.{count}
-use Rattle.records.specs.Layout.{schemaLayout, conceptLayout, stateLayout, sizeAt, entries, leftAt, rightAt, lengthFor, maxFacts, maxStateWords, objectPart, wordPart}
-use Rattle.records.specs.SchemaRecord.{signatureOf, axiomOf, schemaOf}
+use Rattle.records.specs.Layout.{schemaLayout, conceptLayout, stateLayout, sizeAt, entries, leftAt, rightAt, lengthFor, maxFacts, maxStateWords, bytePart, objectPart, wordPart}
+use Rattle.records.specs.SchemaRecord.{signatureOf, axiomKind, axiomOf, schemaOf}
 use Rattle.records.specs.ConceptRecord.{tokenOf, tokenAt}
 use Rattle.records.specs.StateRecord.{objects, kindAt, objectAt}
 use Rattle.records.specs.Refusal.{misshapen, isStep, stepAt, steps}
-use Rattle.records.specs.Encoding.{recordOf, Words, leftOf, rightOf, schemaRecord, stepsIn, conceptRecord, fact, leftWord, rightWord, stateRecord}
+use Rattle.records.specs.Encoding.{recordOf, Words, leftOf, rightOf, schemaRecord, axiomWords, stepsIn, conceptRecord, fact, leftWord, rightWord, stateRecord}
+use Rattle.records.specs.InRange.{AxiomInRange}
 use Rattle.records.proofs.FiniteLaws.{count-same}
 
 -- the size words of a layout, for n entries
@@ -75,28 +77,47 @@ module _ {E : Type 0} (left right : E → ℕ) {L : Layout} (sizes : List ℕ) (
       )
 
 -- The schema.
-module _ (s : Signature) (l : List Words) where
-  schema-sizes : Sizes schemaLayout (s .classes ∷ s .attributes ∷ s .constants ∷ length l ∷ []) (length l)
+module _ (classes attributes constants : ℕ) (l : List Words) where
+  abbrev schemaWords : List ℕ
+  schemaWords = schemaRecord classes attributes constants l
+
+  schema-sizes : Sizes schemaLayout (classes ∷ attributes ∷ constants ∷ length l ∷ []) (length l)
   unfolding schemaLayout
   schema-sizes = record { many = refl; inside = omega arith; counts = refl }
 
-  pub schema-signature : signatureOf (schemaRecord s l) ≡ s
+  pub schema-signature : signatureOf schemaWords ≡ record { classes = classes; attributes = attributes; constants = constants }
   unfolding signatureOf sizeAt schemaRecord recordOf
   schema-signature = refl
 
-  pub schema-axioms : schemaOf (schemaRecord s l) .axioms ≡ length l
+  pub schema-axioms : schemaOf schemaWords .axioms ≡ length l
   unfolding schemaOf schemaRecord
   schema-axioms = record-entries leftOf rightOf _ l schema-sizes
 
   pub schema-axiom : (i : ℕ) → i < length l
-      → schemaOf (schemaRecord s l) .axiomAt i ≡ axiomOf (leftOf (getD l i (0, 0))) (rightOf (getD l i (0, 0)))
+      → schemaOf schemaWords .axiomAt i ≡ axiomOf (leftOf (getD l i (0, 0))) (rightOf (getD l i (0, 0)))
   unfolding schemaOf schemaRecord
   schema-axiom i h =
       ap₂ axiomOf (record-left leftOf rightOf _ l schema-sizes (0, 0) i h) (record-right leftOf rightOf _ l schema-sizes (0, 0) i h)
 
-  pub schema-shaped : misshapen schemaLayout (schemaRecord s l) ≡ false
+  pub schema-shaped : misshapen schemaLayout schemaWords ≡ false
   unfolding schemaRecord
   schema-shaped = record-shaped leftOf rightOf _ l schema-sizes
+
+byte-front : (k r : ℕ) → r < bytePart → (k * bytePart + r) / bytePart ≡ k
+byte-front k r h = omega arith
+
+byte-rest : (k r : ℕ) → r < bytePart → (k * bytePart + r) % bytePart ≡ r
+byte-rest k r h = omega arith
+
+pub axiom-read : (x : Axiom) → AxiomInRange x → axiomOf (leftOf (axiomWords x)) (rightOf (axiomWords x)) ≡ x
+unfolding axiomOf axiomKind
+axiom-read (Subclass A B) h = rw (byte-front 1 A (omega arith), byte-rest 1 A (omega arith))
+axiom-read (Typing A P B) h =
+    rw (byte-front 2 A (omega arith), byte-rest 2 A (omega arith), byte-front P B (omega arith), byte-rest P B (omega arith))
+axiom-read (Necessary A P) h = rw (byte-front 3 A (omega arith), byte-rest 3 A (omega arith))
+axiom-read (Single A P) h = rw (byte-front 4 A (omega arith), byte-rest 4 A (omega arith))
+axiom-read (Relates P A B) h =
+    rw (byte-front 5 P (omega arith), byte-rest 5 P (omega arith), byte-front A B (omega arith), byte-rest A B (omega arith))
 
 -- The concept.
 module _ (l : List Words) where

@@ -20,6 +20,7 @@ use Rattle.records.specs.SchemaRecord.{signatureOf, axiomKind, axiomOf, 
 use Rattle.records.specs.ConceptRecord.{tokenOf, tokenAt, pileAfter, conceptOf}
 use Rattle.records.specs.StateRecord.{objects, kindAt, objectAt, says, saysPair, stateOf}
 use Rattle.records.specs.Refusal.{misshapen, refusal-1, faultyAxiom, refusal-2, schemaAnswer, schemaNumber, refusal-3, faultyToken, refusal-4, refusal-5, steps, refusal-6, conceptAnswer, conceptNumber, refusal-7, faultyFact, refusal-8, ascends, refusal-9, refusal-10, stateAnswer, stateNumber}
+use Rattle.records.specs.Encoding.{recordOf, schemaRecord, conceptRecord, stepsIn, fact, stateRecord}
 use Rattle.records.specs.Executable.{isIn, firstBroken}
 use Rattle.records.proofs.BoolLaws.{or-true-cases, false-of-not, and-map, and-three-map, same-iff}
 use Rattle.records.proofs.FiniteLaws.{all-at}
@@ -66,49 +67,46 @@ True (judged schema state verdict) = Accepted schema state × Deserves (schemaOf
 
 -- The table.
 
--- Classes 0 Strap, 1 Person; attribute 0 wears; one constant.
+-- Classes 0 Strap, 1 Person; attribute 0 wears; one constant. An axiom by its left and right word.
 -- Axiom 0: Person has at most one wears. Axiom 1: wears relates Person to Strap.
 abbrev pub schemaX : List ℕ
-schemaX = 2 ∷ 1 ∷ 1 ∷ 2 ∷ (4 * 256 + 1) ∷ (5 * 256 + 0) ∷ 0 ∷ (1 * 256 + 0) ∷ []
+schemaX = schemaRecord 2 1 1 ((4 * 256 + 1, 0) ∷ (5 * 256 + 0, 1 * 256 + 0) ∷ [])
 
 -- Axiom 2: Strap needs wears.
 abbrev pub schemaX₂ : List ℕ
-schemaX₂ = 2 ∷ 1 ∷ 1 ∷ 3 ∷ (4 * 256 + 1) ∷ (5 * 256 + 0) ∷ (3 * 256 + 0) ∷ 0 ∷ (1 * 256 + 0) ∷ 0 ∷ []
+schemaX₂ = schemaRecord 2 1 1 ((4 * 256 + 1, 0) ∷ (5 * 256 + 0, 1 * 256 + 0) ∷ (3 * 256 + 0, 0) ∷ [])
 
 -- Three objects: Strap 2; Person 0 and 1; wears (0, 2) and (1, 2); the constant names 0.
 abbrev pub stateS : List ℕ
-stateS =
-    3 ∷ 6
-    ∷ (0 * 512 + 2) ∷ (1 * 512 + 0) ∷ (1 * 512 + 1) ∷ (24 * 512 + 0) ∷ (24 * 512 + 1) ∷ (32 * 512 + 0)
-    ∷ 0 ∷ 0 ∷ 0 ∷ 2 ∷ 2 ∷ 0 ∷ []
+stateS = stateRecord 3 (fact 0 2 0 ∷ fact 1 0 0 ∷ fact 1 1 0 ∷ fact 24 0 2 ∷ fact 24 1 2 ∷ fact 32 0 0 ∷ [])
 
 abbrev pub emptySchema : List ℕ
-emptySchema = 0 ∷ 0 ∷ 0 ∷ 0 ∷ []
+emptySchema = schemaRecord 0 0 0 []
 
 abbrev pub emptyState : List ℕ
-emptyState = 0 ∷ 0 ∷ []
+emptyState = stateRecord 0 []
 
--- A concept: tokens, steps, the sorts, the arguments.
+-- A concept: the sort and the argument of each token.
 abbrev pub table : List Row
 table =
     -- (a) everything
-    selects schemaX stateS (1 ∷ 0 ∷ 2 ∷ 0 ∷ []) (0 ∷ 1 ∷ 2 ∷ [])
+    selects schemaX stateS (conceptRecord ((2, 0) ∷ [])) (0 ∷ 1 ∷ 2 ∷ [])
     -- (b) the constant
-    ∷ selects schemaX stateS (1 ∷ 0 ∷ 3 ∷ 0 ∷ []) (0 ∷ [])
+    ∷ selects schemaX stateS (conceptRecord ((3, 0) ∷ [])) (0 ∷ [])
     -- (c) forward wears to Strap
-    ∷ selects schemaX stateS (4 ∷ 1 ∷ 5 ∷ 1 ∷ 6 ∷ 8 ∷ 0 ∷ 0 ∷ 0 ∷ 0 ∷ []) (0 ∷ 1 ∷ [])
+    ∷ selects schemaX stateS (conceptRecord ((5, 0) ∷ (1, 0) ∷ (6, 0) ∷ (8, 0) ∷ [])) (0 ∷ 1 ∷ [])
     -- (d) backward wears to everything
-    ∷ selects schemaX stateS (4 ∷ 1 ∷ 5 ∷ 2 ∷ 7 ∷ 8 ∷ 0 ∷ 0 ∷ 0 ∷ 0 ∷ []) (2 ∷ [])
+    ∷ selects schemaX stateS (conceptRecord ((5, 0) ∷ (2, 0) ∷ (7, 0) ∷ (8, 0) ∷ [])) (2 ∷ [])
     -- (e) forward wears to everything, then backward wears to the constant
-    ∷ selects schemaX stateS (6 ∷ 2 ∷ 5 ∷ 2 ∷ 6 ∷ 3 ∷ 7 ∷ 8 ∷ 0 ∷ 0 ∷ 0 ∷ 0 ∷ 0 ∷ 0 ∷ []) (0 ∷ 1 ∷ [])
+    ∷ selects schemaX stateS (conceptRecord ((5, 0) ∷ (2, 0) ∷ (6, 0) ∷ (3, 0) ∷ (7, 0) ∷ (8, 0) ∷ [])) (0 ∷ 1 ∷ [])
     -- (f) the path of (e) and the empty path in common
-    ∷ selects schemaX stateS (7 ∷ 2 ∷ 5 ∷ 2 ∷ 6 ∷ 3 ∷ 7 ∷ 5 ∷ 9 ∷ 0 ∷ 0 ∷ 0 ∷ 0 ∷ 0 ∷ 0 ∷ 0 ∷ []) (0 ∷ [])
+    ∷ selects schemaX stateS (conceptRecord ((5, 0) ∷ (2, 0) ∷ (6, 0) ∷ (3, 0) ∷ (7, 0) ∷ (5, 0) ∷ (9, 0) ∷ [])) (0 ∷ [])
     -- (g) the empty path reached
-    ∷ selects schemaX stateS (2 ∷ 0 ∷ 5 ∷ 8 ∷ 0 ∷ 0 ∷ []) (0 ∷ 1 ∷ 2 ∷ [])
+    ∷ selects schemaX stateS (conceptRecord ((5, 0) ∷ (8, 0) ∷ [])) (0 ∷ 1 ∷ 2 ∷ [])
     -- (h) Person and Strap
-    ∷ selects schemaX stateS (3 ∷ 0 ∷ 1 ∷ 1 ∷ 4 ∷ 1 ∷ 0 ∷ 0 ∷ []) []
+    ∷ selects schemaX stateS (conceptRecord ((1, 1) ∷ (1, 0) ∷ (4, 0) ∷ [])) []
     -- (i) wears to everything and wears to Strap in common
-    ∷ selects schemaX stateS (7 ∷ 2 ∷ 5 ∷ 2 ∷ 6 ∷ 5 ∷ 1 ∷ 6 ∷ 9 ∷ 0 ∷ 0 ∷ 0 ∷ 0 ∷ 0 ∷ 0 ∷ 0 ∷ []) (0 ∷ 1 ∷ [])
+    ∷ selects schemaX stateS (conceptRecord ((5, 0) ∷ (2, 0) ∷ (6, 0) ∷ (5, 0) ∷ (1, 0) ∷ (6, 0) ∷ (9, 0) ∷ [])) (0 ∷ 1 ∷ [])
     -- (j) the state is legal
     ∷ judged schemaX stateS legal
     -- (k) the axiom added is broken
@@ -208,6 +206,7 @@ unfolding
     allPass passes accepts exactly below deserves named repeats all any count least
     schemaLayout conceptLayout stateLayout sizeAt entries leftAt rightAt lengthFor
     signatureOf axiomKind axiomOf schemaOf tokenOf tokenAt pileAfter conceptOf objects kindAt objectAt says saysPair stateOf
+    recordOf schemaRecord conceptRecord stepsIn stateRecord
     misshapen refusal-1 faultyAxiom refusal-2 schemaAnswer
     refusal-3 faultyToken refusal-4 refusal-5 steps refusal-6 conceptAnswer
     refusal-7 faultyFact refusal-8 ascends refusal-9 refusal-10 stateAnswer

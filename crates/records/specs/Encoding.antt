@@ -3,9 +3,10 @@
 use Prim.Native.Nat.{ℕ, _+_, _*_, _/_, _%_}
 use mathlib.Core.List.{List, [], _∷_, _++_, map}
 use lib.ListN.{length, getD}
-use Rattle.records.specs.declared.schema.Signature.{Signature}
+use Rattle.records.specs.declared.schema.Axiom.{Axiom}
+use Rattle.records.specs.declared.schema.Axiom.the-variants.{Subclass, Typing, Necessary, Single, Relates}
 use Rattle.records.specs.Finite.{count}
-use Rattle.records.specs.Layout.{objectPart, wordPart}
+use Rattle.records.specs.Layout.{bytePart, objectPart, wordPart}
 use Rattle.records.specs.ConceptRecord.{tokenOf}
 use Rattle.records.specs.Refusal.{isStep}
 
@@ -23,9 +24,16 @@ leftOf e = e .0
 abbrev pub rightOf : Words → ℕ
 rightOf e = e .1
 
-unfoldable pub schemaRecord : Signature → List Words → List ℕ
-schemaRecord s axioms =
-    recordOf leftOf rightOf (s .classes ∷ s .attributes ∷ s .constants ∷ length axioms ∷ []) axioms
+unfoldable pub schemaRecord : ℕ → ℕ → ℕ → List Words → List ℕ
+schemaRecord classes attributes constants axioms =
+    recordOf leftOf rightOf (classes ∷ attributes ∷ constants ∷ length axioms ∷ []) axioms
+
+abbrev pub axiomWords : Axiom → Words
+axiomWords (Subclass A B) = (1 * bytePart + A, B)
+axiomWords (Typing A P B) = (2 * bytePart + A, P * bytePart + B)
+axiomWords (Necessary A P) = (3 * bytePart + A, P)
+axiomWords (Single A P) = (4 * bytePart + A, P)
+axiomWords (Relates P A B) = (5 * bytePart + P, A * bytePart + B)
 
 -- the tokens that are steps
 unfoldable pub stepsIn : List Words → ℕ
