@@ -1,14 +1,12 @@
 // Facts as numbers, and the lent list to which they are written.
 use records::state::MAX_FACTS;
 use records::state::OBJECT_PART;
+use records::state::WORD_PART;
 ghost use mathlib.Core.Path.{_≡_};
 ghost use Prim.Native.Nat.{_<_};
 ghost use Rattle.records.specs.Layout.{objectPart, factKinds};
 ghost use Rattle.records.specs.Encoding.{fact as factOf};
 ghost use Rattle.candidate.specs.Writing.{Room, Wrote, factIf};
-
-// A fact is its left word times this plus its right word.
-const WORD_PART: usize = 65_536;
 
 pub fn fact(kind: usize, d: usize, right: usize) -> u32
     requires { ⌜ (kind < factKinds) × (d < objectPart) × (right < objectPart) ⌝ }

@@ -28,6 +28,7 @@ unfoldable pub schemaRecord : ℕ → ℕ → ℕ → List Words → List ℕ
 schemaRecord classes attributes constants axioms =
     recordOf leftOf rightOf (classes ∷ attributes ∷ constants ∷ length axioms ∷ []) axioms
 
+-- the words that `axiomOf` of SchemaRecord reads
 abbrev pub axiomWords : Axiom → Words
 axiomWords (Subclass A B) = (1 * bytePart + A, B)
 axiomWords (Typing A P B) = (2 * bytePart + A, P * bytePart + B)

@@ -26,7 +26,7 @@ pub const STATE_WORDS: usize = STATE_SIZES + 2 * MAX_FACTS;
 // A fact's left word is its kind times this plus its object.
 pub const OBJECT_PART: usize = 512;
 // A fact as one number is its left word times this plus its right word.
-pub const WORD_PART: u32 = 65_536;
+pub const WORD_PART: usize = 65_536;
 // The first kind of attributes, the first of constants, and one past the last.
 pub const ATTRIBUTE_KINDS: usize = 24;
 

@@ -21,8 +21,8 @@ fn word_of(half: Half, fact: u32) -> u16
     ensures { λ r. ⌜ r ≡ wordOf half fact ⌝ }
 {
     match half {
-        Half::Left => (fact / WORD_PART) as u16,
-        Half::Right => (fact % WORD_PART) as u16,
+        Half::Left => (fact as usize / WORD_PART) as u16,
+        Half::Right => (fact as usize % WORD_PART) as u16,
     }
 }
 
