@@ -13,7 +13,7 @@ use Rattle.records.specs.Layout.{conceptLayout, sizeAt, entries, querySteps, ma
 use Rattle.records.specs.SchemaRecord.{signatureOf}
 use Rattle.records.specs.ConceptRecord.{conceptOf}
 use Rattle.records.specs.Refusal.{steps, refusal-5, refusal-6, AcceptedSchema, AcceptedConcept}
-use Rattle.records.proofs.BoolLaws.{or-false-left}
+use Rattle.records.proofs.General.BoolLaws.{or-false-left}
 use Rattle.records.proofs.AcceptedLaws.{passes-3, passes-5, passes-6, tokens-few, token-in-range, accepted-concept, accepted-steps, accepted-limit}
 use Rattle.records.specs.Steps.{conceptSteps}
 use Rattle.chase.specs.Facts.{Facts}

@@ -7,7 +7,7 @@ use mathlib.Core.Path.{_≡_, refl}
 use Rattle.records.specs.Layout.{conceptLayout, entries, querySteps}
 use Rattle.records.specs.Finite.{count}
 use Rattle.records.specs.Refusal.{stepAt, steps}
-use Rattle.records.proofs.FiniteLaws.{count-mono}
+use Rattle.records.proofs.General.FiniteLaws.{count-mono}
 use Rattle.chase.specs.Facts.{Facts}
 use Rattle.records.specs.Reading.{HasPath, stepNumber}
 use Rattle.chase.specs.QueryTokens.{endAt}

@@ -14,7 +14,7 @@ use Rattle.records.specs.Executable.{holds, firstBroken}
 use Rattle.records.specs.SchemaRecord.{schemaOf, signatureOf}
 use Rattle.records.specs.ConceptRecord.{conceptOf}
 use Rattle.records.specs.StateRecord.{stateOf}
-use Rattle.records.proofs.FiniteLaws.{least-le}
+use Rattle.records.proofs.General.FiniteLaws.{least-le}
 use Rattle.records.proofs.OutcomeLaws.{outcome-is, passed-schema, passed-state}
 use Rattle.records.proofs.AcceptedLaws.{axioms-few, objects-few, passes-1, passes-7}
 use Rattle.judge.specs.declared.legal.LegalAnswer.the-variants as legal

@@ -22,7 +22,7 @@ use Rattle.chase.specs.Candidate.{links}
 use Rattle.chase.specs.Targets.{targets}
 use Rattle.chase.specs.Written.{gather, pairFacts}
 use Rattle.chase.proofs.LoopLaws.{any-next, any-map}
-use Rattle.chase.proofs.TestLaws.{cond-elim, cond-elim₂, or-false}
+use Rattle.records.proofs.General.BoolLaws.{cond-elim, cond-elim₂, or-false}
 use Rattle.chase.proofs.ForestLaws.{kid-lacks, kid-bound}
 use Rattle.primary.specs.Words.{edgeOf}
 use Rattle.ground.specs.Objects.{groundIn}

@@ -6,11 +6,11 @@ use native.Mathlib.Numerals.{add-one}
 use native.Mathlib.Omega.{arith}
 use Rattle.records.specs.Finite.{any}
 use Rattle.records.specs.Schema.{Schema}
-use Rattle.records.proofs.FiniteLaws.{any-of, any-found, any-none, none-any}
+use Rattle.records.proofs.General.FiniteLaws.{any-of, any-found, any-none, none-any}
 use Rattle.chase.specs.Ground.{Ground}
 use Rattle.chase.specs.Forest.{Forest, size, lacks}
 use Rattle.chase.specs.Candidate.{lacking, objects}
-use Rattle.chase.proofs.TestLaws.{cond-elim}
+use Rattle.records.proofs.General.BoolLaws.{cond-elim}
 use Rattle.candidate.specs.Facts.{lacksOne}
 
 module _ (f : ℕ → ℕ → Bool) (n m : ℕ) where

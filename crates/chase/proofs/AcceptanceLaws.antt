@@ -17,7 +17,7 @@ use Rattle.records.proofs.AcceptedLaws.{passes-1, passes-2, passes-4, passes-5,
 pub use Rattle.records.proofs.AcceptedLaws.{signature-few as accepted-signature}
 use Rattle.chase.specs.Declared.{DeclaredAxiom, Declared}
 use Rattle.chase.specs.Task.{Task, WellFormed, taskOf}
-use Rattle.chase.proofs.TestLaws.{and-parts}
+use Rattle.records.proofs.General.BoolLaws.{and-parts}
 use Rattle.chase.proofs.DeclaredLaws.{declared-concept}
 
 declares-is : (s : Signature) (x : Axiom) → So (declares s x) → DeclaredAxiom s x

@@ -13,8 +13,8 @@ use borrow.Author.Tests.{lt-ltb, ltb-true}
 use Rattle.records.specs.Finite.{count}
 use Rattle.records.specs.State.{State, Related, repeats}
 use Rattle.records.proofs.NamesLaws.{repeats-none}
-use Rattle.records.proofs.BoolLaws.{not-both}
-use Rattle.records.proofs.FiniteLaws.{any-none}
+use Rattle.records.proofs.General.BoolLaws.{not-both, cond-elim, or-left}
+use Rattle.records.proofs.General.FiniteLaws.{any-none, count-le, any-found}
 use Rattle.records.specs.Schema.{Schema, Legal}
 use Rattle.records.specs.Semantics.{In}
 use Rattle.records.specs.Subsumption.{Counterexample, Held}
@@ -26,15 +26,13 @@ use Rattle.chase.specs.Ground.{Ground, live, objectOf, renumber, groundO
 use Rattle.chase.specs.Forest.{Forest, bare, size, classesOf, lacks}
 use Rattle.chase.specs.Closing.{closed}
 use Rattle.chase.specs.Candidate.{links, lacking, objects, chased, candidateOf, forest, candidate, first}
-use Rattle.chase.proofs.TestLaws.{cond-elim, or-left}
-use Rattle.chase.proofs.All.{all-map, all-zip, all-unmapped}
+use Rattle.records.proofs.General.AllLaws.{all-map, all-zip, all-unmapped}
 use Rattle.chase.proofs.ClosureLaws.{needs-sound, image-sound}
 use Rattle.chase.proofs.FactsLaws.{Meets, Assigns, meets-in}
 use Rattle.chase.proofs.ClosingLaws.{pair-kept}
 use Rattle.chase.proofs.Consequence.{Follows, fitting}
 use Rattle.chase.proofs.Extension.{Made}
 use Rattle.chase.proofs.Done.{Done, opened, held}
-use Rattle.chase.proofs.CountLaws.{count-le, any-found}
 use Rattle.chase.proofs.PrimeLaws.{Ok}
 use Rattle.chase.proofs.PrimaryLaws.{within, Closed, primary-ok, primary-closed}
 use Rattle.chase.proofs.GroundLaws.{Grounded, nodeOf, object-inside, object-set, object-rep, rep-object, grounded}

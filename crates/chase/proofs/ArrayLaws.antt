@@ -11,7 +11,7 @@ use borrow.Author.Tests.{eq-eqb, ne-eqb}
 use Rattle.records.specs.Schema.{Schema}
 use Rattle.chase.specs.Ground.{Ground}
 use Rattle.chase.specs.Forest.{Forest, bare, grow, size, parent, classesOf, entries, makers, labels, madeSets}
-use Rattle.chase.proofs.Numbers.{up-to}
+use Rattle.records.proofs.General.CountLaws.{up-to}
 
 -- an older entry stays, and the newest is last
 module _ (f : ℕ → ℕ → ℕ → ℕ) where

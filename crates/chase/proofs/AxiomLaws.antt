@@ -14,7 +14,7 @@ use Rattle.records.specs.Schema.{Schema}
 use Rattle.chase.specs.Declared.{DeclaredAxiom}
 use Rattle.chase.specs.ClassSet.{place, meets, has}
 use Rattle.chase.specs.Axioms.{only, domainBy, needsBy, singleBy, valuesBy, collect, domain, needs, isSingle, values}
-use Rattle.chase.proofs.TestLaws.{and-both, and-parts}
+use Rattle.records.proofs.General.BoolLaws.{and-both, and-parts}
 use Rattle.chase.proofs.LoopLaws.{upto-keeps, upto-brings}
 use Rattle.chase.proofs.ClassSetLaws.{has-left, has-right, has-split, has-none, place-has, place-below, place-only, meets-of, meets-some}
 

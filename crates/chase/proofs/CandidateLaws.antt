@@ -22,9 +22,9 @@ use Rattle.chase.specs.Task.{Task, WellFormed}
 use Rattle.chase.specs.Ground.{Ground, setAt}
 use Rattle.chase.specs.Forest.{Forest, bare, grow, size, kid, asks, classesOf, lacks}
 use Rattle.chase.specs.Candidate.{links, lacking, objects, chased}
-use Rattle.chase.proofs.TestLaws.{and-both, and-parts, or-left, or-right, or-true-cases, met, cond-elim}
-use Rattle.chase.proofs.All.{All, all-map}
-use Rattle.chase.proofs.CountLaws.{any-of}
+use Rattle.records.proofs.General.BoolLaws.{and-both, and-parts, or-left, or-right, or-true-cases, met, cond-elim}
+use Rattle.records.proofs.General.AllLaws.{All, all-map}
+use Rattle.records.proofs.General.FiniteLaws.{any-of}
 use Rattle.chase.proofs.ClassSetLaws.{full-has}
 use Rattle.chase.proofs.AxiomLaws.{Of, Small, needs-is, needs-of, single-of, domain-of, range-of, typing-of, declared-as}
 use Rattle.chase.proofs.ClosureLaws.{full-small, full-fixed, subclass-closed, image-small, image-fixed, image-values, needs-domain}

@@ -11,7 +11,7 @@ use Rattle.records.specs.declared.schema.Axiom.the-variants.{Subclass, Typing, 
 use Rattle.records.specs.State.{State, Member, Related, Every, Some, Names}
 use Rattle.records.specs.Schema.{Schema, Holds, Legal}
 use Rattle.chase.specs.Closing.{closed}
-use Rattle.chase.proofs.TestLaws.{or-left, or-right, or-true-cases, and-both, and-parts}
+use Rattle.records.proofs.General.BoolLaws.{or-left, or-right, or-true-cases, and-both, and-parts}
 
 -- F holds the axiom, but for values of Necessary that are lacking, and it goes on to hold where u is those values
 abbrev pub Chased : State → (ℕ → ℕ → Bool) → ℕ → Axiom → Type 0

@@ -11,7 +11,7 @@ use Rattle.records.specs.Schema.{Legal}
 use Rattle.records.specs.Semantics.{In}
 use Rattle.records.specs.Steps.{conceptSteps}
 use Rattle.chase.specs.Task.{Task, WellFormed, startNode, asked}
-use Rattle.chase.proofs.TestLaws.{cond-elim}
+use Rattle.records.proofs.General.BoolLaws.{cond-elim}
 use Rattle.chase.proofs.FactsLaws.{Meets, Assigns}
 use Rattle.chase.proofs.Witness.{Chosen, witness}
 

@@ -15,7 +15,7 @@ use Rattle.chase.specs.Task.{Task}
 use Rattle.chase.specs.Ground.{Ground}
 use Rattle.chase.specs.Forest.{Forest, bare, size, hop, push, next, lacks}
 use Rattle.chase.specs.Candidate.{chased, candidateOf}
-use Rattle.chase.proofs.All.{All, Mem, all-at}
+use Rattle.records.proofs.General.AllLaws.{All, Mem, all-at}
 use Rattle.chase.proofs.Reflection.{Covered, Along}
 use Rattle.chase.proofs.ClosingLaws.{pair-cases}
 use Rattle.chase.proofs.GroundLaws.{Grounded}

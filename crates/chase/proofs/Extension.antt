@@ -5,8 +5,8 @@ use native.Mathlib.Omega.{arith}
 use mathlib.Core.Path.{_≡_, refl, sym, ap, subst, subst₂, _∙_}
 use Rattle.records.specs.State.{State, Member, Related, Every, Some}
 use Rattle.records.specs.Schema.{Schema, Legal}
-use Rattle.chase.proofs.Numbers.{up-to}
-use Rattle.chase.proofs.Update.{put, put-same, put-other}
+use Rattle.records.proofs.General.CountLaws.{up-to}
+use Rattle.records.proofs.General.Update.{put, put-same, put-other}
 use Rattle.chase.proofs.Reflection.{Hom}
 
 -- object d of I is in each class of object s of F

@@ -1,6 +1,6 @@
 -- A list that has just the facts of a state, in ascending order (Lists), makes an accepted record (list-accepted), and that of
 -- a state which is alike (list-alike), if the state and the list are within the limits of records.
-use Prim.Native.Nat.{ℕ, suc, _+_, _-_, _*_, _≤_, _<_}
+use Prim.Native.Nat.{ℕ, suc, _+_, _-_, _≤_, _<_}
 use native.Mathlib.Omega.{arith}
 use native.Mathlib.Decide.{decLt}
 use mathlib.Core.Bool.{false, So, _&&_, _||_}
@@ -16,17 +16,17 @@ use Rattle.records.specs.State.{State, Member, Related, Names}
 use Rattle.records.specs.StateRecord.{objects, kindAt, objectAt, stateOf}
 use Rattle.records.specs.Refusal.{declaresKind, suitsKind, faultyFact, ascends, descends, namesAt, misnames, refusal-7, refusal-8, refusal-9, refusal-10, AcceptedState}
 use Rattle.records.specs.Encoding.{fact, leftWord, rightWord, stateRecord}
-use Rattle.records.proofs.BoolLaws.{and-both, or-left, or-right}
+use Rattle.records.proofs.General.BoolLaws.{and-both, or-left, or-right}
 use Rattle.records.proofs.EncodingLaws.{kindOf, objectIn, fact-parts, state-objects, state-facts, state-left, state-right, state-kind, state-object, state-shaped}
-use Rattle.records.proofs.FiniteLaws.{none-any}
+use Rattle.records.proofs.General.FiniteLaws.{none-any}
 use Rattle.records.proofs.NamesLaws.{repeats-none}
 use Rattle.records.proofs.RefusalLaws.{state-accepted}
 use Rattle.records.proofs.StateScanLaws.{name-is}
 use Rattle.chase.specs.Written.{nameFact}
-use Rattle.chase.proofs.All.{Mem}
-use Rattle.chase.proofs.ListLaws.{at-mem, mem-at}
-use Rattle.chase.proofs.CountLaws.{count-once}
-use Rattle.chase.proofs.Ascending.{Ascends, ascends-at, ascends-same}
+use Rattle.records.proofs.General.AllLaws.{Mem}
+use Rattle.records.proofs.General.ListLaws.{at-mem, mem-at}
+use Rattle.records.proofs.General.CountLaws.{count-once}
+use Rattle.records.proofs.General.Ascending.{Ascends, ascends-at, ascends-same}
 use Rattle.chase.proofs.Alike.{Alike}
 use Rattle.chase.proofs.RecordLaws.{record-says, record-says-pair}
 

@@ -10,7 +10,7 @@ use Rattle.records.specs.Semantics.{Steps, In, Leads}
 use Rattle.records.specs.Steps.{conceptSteps, pathSteps}
 use Rattle.chase.specs.Facts.{Membership, Equation, Edge, Facts, none, equal, related, _⊕_, endNode, conceptFacts, pathFacts}
 use Rattle.chase.specs.Declared.{Declared, DeclaredPath}
-use Rattle.chase.proofs.All.{All, all-append, all-split}
+use Rattle.records.proofs.General.AllLaws.{All, all-append, all-split}
 
 -- what holds of each fact, by its sort
 pub record AllFacts (X : Membership → Type 0) (Y : Equation → Type 0) (Z : Edge → Type 0) (F : Facts) : Type 0 where

@@ -12,8 +12,8 @@ use Rattle.records.specs.Schema.{Schema}
 use Rattle.chase.specs.Axioms.{needs, image}
 use Rattle.chase.specs.Ground.{Ground}
 use Rattle.chase.specs.Forest.{Forest, bare, grow, size, kid, parent, asks, classesOf, lacks, sprout}
-use Rattle.chase.proofs.Numbers.{up-to}
-use Rattle.chase.proofs.TestLaws.{cond-elim, and-both, and-parts, or-right, or-false}
+use Rattle.records.proofs.General.CountLaws.{up-to}
+use Rattle.records.proofs.General.BoolLaws.{cond-elim, and-both, and-parts, or-right, or-false}
 
 -- the ground's objects are objects, and so is a made value
 pub ground-size : (G : Ground) (T : Forest) → G .objects ≤ size G T

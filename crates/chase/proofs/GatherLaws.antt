@@ -7,9 +7,9 @@ use mathlib.Core.Path.{_≡_, refl}
 use lib.ListN.{length, length-append}
 use Rattle.chase.specs.Targets.{sum}
 use Rattle.chase.specs.Written.{gather}
-use Rattle.chase.proofs.All.{Mem, mem-left, mem-right, mem-split}
-use Rattle.chase.proofs.Numbers.{up-to}
-use Rattle.chase.proofs.Ascending.{Between, between-none, between-append}
+use Rattle.records.proofs.General.AllLaws.{Mem, mem-left, mem-right, mem-split}
+use Rattle.records.proofs.General.CountLaws.{up-to}
+use Rattle.records.proofs.General.Ascending.{Between, between-none, between-append}
 use Rattle.chase.proofs.PairLaws.{sum-le, sum-same}
 
 module _ (f : ℕ → List ℕ) where

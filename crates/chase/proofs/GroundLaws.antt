@@ -14,11 +14,12 @@ use Rattle.chase.specs.Facts.{Edge}
 use Rattle.chase.specs.Task.{Task, WellFormed, nodes, startNode, constantNode, asked}
 use Rattle.chase.specs.Primary.{Prime, repOf, setOf, rival}
 use Rattle.chase.specs.Ground.{Ground, setAt, live, objectOf, listing, renumber, groundOf}
-use Rattle.chase.proofs.TestLaws.{and-both}
-use Rattle.chase.proofs.All.{All, all-map, all-zip, all-mapped}
+use Rattle.records.proofs.General.BoolLaws.{and-both}
+use Rattle.records.proofs.General.AllLaws.{All, all-map, all-zip, all-mapped}
 use Rattle.chase.proofs.AxiomLaws.{Small}
 use Rattle.chase.proofs.Consequence.{Follows}
-use Rattle.chase.proofs.CountLaws.{count-lt, pick, pick-is, count-injective, listing-at}
+use Rattle.records.proofs.General.CountLaws.{count-lt, pick, pick-is, count-injective}
+use Rattle.chase.proofs.ListingLaws.{listing-at}
 use Rattle.chase.proofs.PrimeLaws.{Ok, set-small, set-sound}
 use Rattle.chase.proofs.PrimaryLaws.{Is-edge, are-edges, Closed}
 

@@ -1,13 +1,8 @@
 -- Why the decision is right.
 -- Tests, numbers, lists and loops.
-pub mod TestLaws
-pub mod Numbers
-pub mod Update
-pub mod All
 pub mod LoopLaws
 pub mod ListLaws
-pub mod Ascending
-pub mod CountLaws
+pub mod ListingLaws
 -- The theory: what a finished chase decides.
 pub mod Reflection
 pub mod ClosingLaws

@@ -12,8 +12,8 @@ use lib.ListN.{length, getD, take}
 use lib.Seq.{take-suc}
 use borrow.Author.Tests.{eqb-true, eqb-false}
 use Rattle.chase.specs.Loops.{each, anyOf, upto, settle}
-use Rattle.chase.proofs.Numbers.{up-to}
-use Rattle.chase.proofs.All.{All}
+use Rattle.records.proofs.General.CountLaws.{up-to}
+use Rattle.records.proofs.General.AllLaws.{All}
 
 -- a loop over a list, entry by entry
 each-append : {A X : Type 0} (run : A → X → X) (l m : List A) (x : X) → each run (l ++ m) x ≡ each run m (each run l x)

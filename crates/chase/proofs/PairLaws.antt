@@ -21,8 +21,8 @@ use Rattle.chase.specs.Ground.{Ground, listing, renumber, groundOf, grou
 use Rattle.chase.specs.Forest.{Forest, size, kid, push, lacks}
 use Rattle.chase.specs.Candidate.{links, objects}
 use Rattle.chase.specs.Targets.{sum, targets, pairs}
-use Rattle.chase.proofs.TestLaws.{cond-elim, cond-elim₂}
-use Rattle.chase.proofs.CountLaws.{listing-length}
+use Rattle.records.proofs.General.BoolLaws.{cond-elim, cond-elim₂}
+use Rattle.chase.proofs.ListingLaws.{listing-length}
 use Rattle.chase.proofs.ForestLaws.{kid-lacks}
 
 pub sum-le : (n : ℕ) (f g : ℕ → ℕ) → ((i : ℕ) → f i ≤ g i) → sum n f ≤ sum n g

@@ -18,8 +18,8 @@ use Rattle.chase.specs.Axioms.{domain, values, isSingle, raise}
 use Rattle.chase.specs.Facts.{Membership, Equation, Edge}
 use Rattle.chase.specs.Task.{Task, WellFormed, nodes, asked}
 use Rattle.chase.specs.Primary.{Prime, repOf, setOf, merge, equate, assert, lift, typeOrigin, typeTarget, rival, unify, equateAll, assertAll, liftAll, typeAll, unifyAll, pass, weight, numbersFrom, begin, bound, settled, primary}
-use Rattle.chase.proofs.TestLaws.{cond-elim, and-parts}
-use Rattle.chase.proofs.All.{All, all-map, all-zip}
+use Rattle.records.proofs.General.BoolLaws.{cond-elim, and-parts}
+use Rattle.records.proofs.General.AllLaws.{All, all-map, all-zip}
 use Rattle.chase.proofs.LoopLaws.{Grows, then-grows, then-fixed, each-grows, each-fixed, upto-grows, upto-fixed, settle-ok, settle-fixed, settle-next, settle-stop}
 use Rattle.chase.proofs.ClassSetLaws.{place-has, place-only, place-below, has-none, has-absorbed}
 use Rattle.chase.proofs.AxiomLaws.{domain-small, values-small}

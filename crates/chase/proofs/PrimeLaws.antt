@@ -15,11 +15,12 @@ use borrow.Author.Tests.{eq-eqb, ne-eqb, ltb-true, ltb-false}
 use Rattle.records.specs.State.{Member}
 use Rattle.chase.specs.Task.{Task, nodes}
 use Rattle.chase.specs.Primary.{Prime, repOf, setOf, add, join, merge, total, weight}
-use Rattle.chase.proofs.TestLaws.{cond-elim}
+use Rattle.records.proofs.General.BoolLaws.{cond-elim}
 use Rattle.chase.proofs.Consequence.{Follows}
 use Rattle.chase.proofs.AxiomLaws.{Small}
 use Rattle.chase.proofs.ClosureLaws.{Fulfils, fulfils-or, or-grows}
-use Rattle.chase.proofs.ListLaws.{set-elim, getD-map, total-set, total-below, total-map-rise}
+use Rattle.records.proofs.General.ListLaws.{set-elim, getD-map}
+use Rattle.chase.proofs.ListLaws.{total-set, total-below, total-map-rise}
 
 pub record Ok (t : Task) (x : Prime) : Type 0 where
   pub reps : length (x .reps) ≡ nodes t

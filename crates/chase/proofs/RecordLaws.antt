@@ -10,12 +10,12 @@ use Rattle.records.specs.Finite.{any}
 use Rattle.records.specs.Layout.{stateLayout, entries}
 use Rattle.records.specs.StateRecord.{says, saysPair}
 use Rattle.records.specs.Encoding.{rightWord, stateRecord}
-use Rattle.records.proofs.BoolLaws.{and-iff, and-three-iff}
+use Rattle.records.proofs.General.BoolLaws.{and-iff, and-three-iff}
 use Rattle.records.proofs.EncodingLaws.{kindOf, objectIn, state-facts, state-right, state-kind, state-object}
 use Rattle.records.proofs.ExecutableLaws.{eqb-iff}
-use Rattle.records.proofs.FiniteLaws.{any-found, any-of}
-use Rattle.chase.proofs.All.{Mem}
-use Rattle.chase.proofs.ListLaws.{at-mem, mem-at}
+use Rattle.records.proofs.General.FiniteLaws.{any-found, any-of}
+use Rattle.records.proofs.General.AllLaws.{Mem}
+use Rattle.records.proofs.General.ListLaws.{at-mem, mem-at}
 
 module _ (n : ℕ) (l : List ℕ) where
   abbrev w : List ℕ

@@ -12,7 +12,7 @@ use Rattle.chase.specs.Loops.{each, upto}
 use Rattle.records.specs.Steps.{conceptSteps, pathSteps}
 use Rattle.chase.specs.Ground.{Ground}
 use Rattle.chase.specs.Forest.{Forest, bare, size, hop, push, next, lacks, make, makeFor, walk, trek, walks}
-use Rattle.chase.proofs.TestLaws.{cond-elim}
+use Rattle.records.proofs.General.BoolLaws.{cond-elim}
 use Rattle.chase.specs.Bounds.{tri}
 use Rattle.records.specs.Layout.{viewSteps}
 

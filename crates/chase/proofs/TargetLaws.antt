@@ -17,10 +17,10 @@ use Rattle.chase.specs.Ground.{Ground, listing, ground}
 use Rattle.chase.specs.Forest.{Forest, bare, size, kid, push, lacks}
 use Rattle.chase.specs.Candidate.{links, chased, candidateOf, forest, candidate}
 use Rattle.chase.specs.Targets.{targets}
-use Rattle.chase.proofs.TestLaws.{or-left, or-right, cond-elim}
-use Rattle.chase.proofs.All.{All, Mem, all-append, all-map, mem-left, mem-right, mem-split}
-use Rattle.chase.proofs.Ascending.{Ascends, ascends-append}
-use Rattle.chase.proofs.Numbers.{up-to}
+use Rattle.records.proofs.General.BoolLaws.{or-left, or-right, cond-elim}
+use Rattle.records.proofs.General.AllLaws.{All, Mem, all-append, all-map, mem-left, mem-right, mem-split}
+use Rattle.records.proofs.General.Ascending.{Ascends, ascends-append}
+use Rattle.records.proofs.General.CountLaws.{up-to}
 use Rattle.chase.proofs.ClosingLaws.{pair-cases, pair-kept, pair-closing}
 use Rattle.chase.proofs.GroundLaws.{Grounded, nodeOf}
 use Rattle.chase.proofs.ForestLaws.{Grown, ground-size, kid-inside}

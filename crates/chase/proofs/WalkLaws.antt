@@ -11,9 +11,9 @@ use Rattle.records.specs.Concept.{Direction, forward, backward, Concept, class,
 use Rattle.chase.specs.Loops.{each, upto}
 use Rattle.chase.specs.Ground.{Ground}
 use Rattle.chase.specs.Forest.{Forest, bare, size, hop, push, next, lacks, sprout, make, makeFor, walk, trek, walks}
-use Rattle.chase.proofs.Numbers.{up-to}
-use Rattle.chase.proofs.TestLaws.{cond-elim}
-use Rattle.chase.proofs.All.{All, all-map}
+use Rattle.records.proofs.General.CountLaws.{up-to}
+use Rattle.records.proofs.General.BoolLaws.{cond-elim}
+use Rattle.records.proofs.General.AllLaws.{All, all-map}
 use Rattle.chase.proofs.ForestLaws.{Grown, same, more, grown-trans, grown-size, grown-parent, grown-kid, grown-lacks, kid-lacks, kid-new, kid-inside, parent-kid}
 
 pub push-all : (X : ℕ → Type 0) (k : ℕ) (l : List ℕ) → ((e : ℕ) → k ≡ suc e → X e) → All X l → All X (push k l)

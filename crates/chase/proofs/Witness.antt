@@ -11,8 +11,8 @@ use Rattle.records.specs.Semantics.{Steps, In, Leads}
 use Rattle.records.specs.Steps.{conceptSteps, pathSteps}
 use Rattle.chase.specs.Facts.{Facts, endNode, conceptFacts, pathFacts}
 use Rattle.chase.specs.Declared.{Declared, DeclaredPath}
-use Rattle.chase.proofs.Update.{put, put-same, put-other, put-elim}
-use Rattle.chase.proofs.All.{all-zip}
+use Rattle.records.proofs.General.Update.{put, put-same, put-other, put-elim}
+use Rattle.records.proofs.General.AllLaws.{all-zip}
 use Rattle.chase.proofs.FactsLaws.{Within, end-within, facts-within, path-within, facts-append, facts-none, Meets, steps-meet, equal-meets, Assigns}
 
 -- an assignment that meets F and is g from node b on

@@ -22,9 +22,9 @@ use Rattle.chase.specs.Forest.{Forest, classesOf}
 use Rattle.chase.specs.Candidate.{objects, forest, candidate}
 use Rattle.chase.specs.Targets.{targets, pairs}
 use Rattle.chase.specs.Written.{nameFact, gather, classFacts, pairFacts, objectFacts, facts, written}
-use Rattle.chase.proofs.TestLaws.{cond-elim}
-use Rattle.chase.proofs.All.{All, Mem, all-map, all-mapped, all-of, mem-left, mem-right, mem-split, mem-mapped, mem-unmapped}
-use Rattle.chase.proofs.Ascending.{Ascends, Between, between-none, between-one, between-wider, between-append}
+use Rattle.records.proofs.General.BoolLaws.{cond-elim}
+use Rattle.records.proofs.General.AllLaws.{All, Mem, all-map, all-mapped, all-of, mem-left, mem-right, mem-split, mem-mapped, mem-unmapped}
+use Rattle.records.proofs.General.Ascending.{Ascends, Between, between-none, between-one, between-wider, between-append}
 use Rattle.chase.proofs.GroundLaws.{nodeOf}
 use Rattle.chase.proofs.ForestLaws.{ground-size}
 use Rattle.chase.proofs.CandidateLaws.{room}

@@ -9,7 +9,7 @@ use lib.ListN.{length, length-map}
 use Rattle.records.specs.Layout.{maxFacts, querySteps}
 use Rattle.records.specs.SchemaRecord.{signatureOf, schemaOf}
 use Rattle.records.specs.ConceptRecord.{conceptOf}
-use Rattle.records.proofs.FiniteLaws.{count-le}
+use Rattle.records.proofs.General.FiniteLaws.{count-le}
 use Rattle.records.specs.Steps.{conceptSteps}
 use Rattle.chase.specs.Task.{Task, nodes, asked, taskOf}
 use Rattle.chase.specs.Primary.{primary, clash}

@@ -12,11 +12,10 @@ use Rattle.records.specs.Finite.{count}
 use Rattle.records.specs.Layout.{stateLayout, entries, objectPart, attributeKinds, constantKinds, factKinds, maxObjects}
 use Rattle.records.specs.StateRecord.{objects, kindAt, objectAt, says, stateOf}
 use Rattle.records.specs.Refusal.{faultyFact, declaresKind, namesAt}
-use Rattle.records.proofs.BoolLaws.{or-false-left, and-right, and-both, false-of}
-use Rattle.records.proofs.FiniteLaws.{any-found, count-found}
+use Rattle.records.proofs.General.BoolLaws.{or-false-left, and-right, and-both, false-of, test-same}
+use Rattle.records.proofs.General.FiniteLaws.{any-found, count-found}
 use Rattle.records.proofs.AcceptedLaws.{passes-7, passes-8, passes-10, objects-few, fact-faultless, constant-once}
 use Rattle.records.proofs.StateScanLaws.{says-iff, fact-object, fact-second, name-is}
-use Rattle.index.proofs.TestLaws.{test-same}
 use Rattle.index.proofs.BitSetLaws.{past-bits}
 use Rattle.index.proofs.IndexLaws.{index-says}
 use Rattle.evaluate.specs.Evaluable.{Evaluable}

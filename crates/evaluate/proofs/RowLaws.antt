@@ -13,10 +13,9 @@ use lib.ListN.{length, length-set, getD, set, replicate, length-replicate}
 use lib.Seq.{getD-set-same, getD-set-other}
 use Rattle.records.specs.Finite.{any}
 use Rattle.records.specs.Layout.{objectPart}
-use Rattle.records.proofs.FiniteLaws.{any-zero, any-more, any-of, any-found}
-use Rattle.records.proofs.BoolLaws.{and-both, and-three-map, not-both}
+use Rattle.records.proofs.General.FiniteLaws.{any-zero, any-more, any-of, any-found}
+use Rattle.records.proofs.General.BoolLaws.{and-both, and-three-map, not-both, test-same}
 use Rattle.index.specs.BitSet.{wordBits, bit, bitAt, Inserted}
-use Rattle.index.proofs.TestLaws.{test-same}
 use Rattle.index.proofs.BitLaws.{word-or, word-and}
 use Rattle.index.proofs.BitSetLaws.{zero-bits, past-bits}
 use Rattle.evaluate.specs.Selection.{setWords, relationWords}

@@ -14,7 +14,7 @@ use Rattle.records.specs.Concept.{Concept, class, everything, constant, both, r
 use Rattle.records.specs.Executable.{isIn, leadsTo}
 use Rattle.records.specs.Layout.{objectPart, constantKinds}
 use Rattle.records.specs.StateRecord.{stateOf}
-use Rattle.records.proofs.FiniteLaws.{any-same, none-any}
+use Rattle.records.proofs.General.FiniteLaws.{any-same, none-any}
 use Rattle.evaluate.specs.Selection.{Selection, Relation}
 use Rattle.evaluate.specs.Evaluable.{Evaluable}
 use Rattle.evaluate.specs.Rows.{sharedBit, SharedRow, Shared, Row, Below, Diagonal}

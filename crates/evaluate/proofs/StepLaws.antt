@@ -16,10 +16,9 @@ use Rattle.records.specs.Concept.{backward, directionOf, Concept, Path, step}
 use Rattle.records.specs.Executable.{stepsTo, isIn, leadsTo}
 use Rattle.records.specs.Layout.{objectPart, stateLayout, entries, rightAt, attributeKinds}
 use Rattle.records.specs.StateRecord.{kindAt, objectAt, saysPair, stateOf}
-use Rattle.records.proofs.BoolLaws.{and-both, and-map, and-three-map}
-use Rattle.records.proofs.FiniteLaws.{any-zero, any-more, any-of, any-found}
+use Rattle.records.proofs.General.BoolLaws.{and-both, and-map, and-three-map, test-same}
+use Rattle.records.proofs.General.FiniteLaws.{any-zero, any-more, any-of, any-found}
 use Rattle.index.specs.BitSet.{bitAt}
-use Rattle.index.proofs.TestLaws.{test-same}
 use Rattle.index.proofs.BitSetLaws.{zero-bits}
 use Rattle.evaluate.specs.declared.relation.Step.{Step}
 use Rattle.evaluate.specs.Selection.{relationWords, Selection, Relation}

@@ -17,7 +17,7 @@ use Rattle.chase.specs.Ground.{Ground}
 use Rattle.chase.specs.Loops.{each}
 use Rattle.chase.specs.Forest.{Forest, grow, size, lacks, sprout, make, makeFor}
 use Rattle.chase.proofs.LoopLaws.{each-next}
-use Rattle.chase.proofs.TestLaws.{cond-elim}
+use Rattle.records.proofs.General.BoolLaws.{cond-elim}
 use Rattle.ground.specs.Objects.{link, objectWord, classesIn, makerIn, forestIn, groundIn}
 use Rattle.forest.specs.declared.places.Here.{Here}
 use Rattle.forest.specs.Kept.{Kept, Grows}

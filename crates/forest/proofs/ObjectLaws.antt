@@ -14,7 +14,7 @@ use Rattle.records.specs.Schema.{Schema}
 use Rattle.chase.specs.ClassSet.{full}
 use Rattle.chase.specs.Ground.{Ground}
 use Rattle.chase.specs.Forest.{Forest, bare, grow, size, parent, classesOf, entries}
-use Rattle.chase.proofs.ListLaws.{getD-map}
+use Rattle.records.proofs.General.ListLaws.{getD-map}
 use Rattle.chase.proofs.ForestLaws.{ground-size}
 use Rattle.chase.proofs.CandidateLaws.{ground-classes, full-beyond}
 use Rattle.chase.proofs.ArrayLaws.{entries-length, classes-entry, parent-entry}

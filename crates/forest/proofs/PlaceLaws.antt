@@ -12,7 +12,7 @@ use lib.Seq.{take-suc, take-suc-set, take-all, getD-take, getD-set-same, getD-se
 use Rattle.records.specs.Concept.{Direction, directionOf}
 use Rattle.chase.specs.Ground.{Ground}
 use Rattle.chase.specs.Forest.{Forest, size, kid, parent, push, hop, next}
-use Rattle.chase.proofs.TestLaws.{cond-elim}
+use Rattle.records.proofs.General.BoolLaws.{cond-elim}
 use Rattle.chase.proofs.ForestLaws.{kid-bound}
 use Rattle.ground.specs.Objects.{attributeIn, forestIn, groundIn}
 use Rattle.forest.specs.declared.places.Here.{Here}

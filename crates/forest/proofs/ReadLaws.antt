@@ -20,7 +20,7 @@ use Rattle.chase.specs.ClassSet.{meets, full}
 use Rattle.chase.specs.Axioms.{collect, needsBy, needs}
 use Rattle.chase.specs.Forest.{Forest, kid, parent, asks, classesOf, lacks}
 use Rattle.chase.proofs.LoopLaws.{any-next, any-map}
-use Rattle.chase.proofs.TestLaws.{or-left, or-right, and-both, and-parts}
+use Rattle.records.proofs.General.BoolLaws.{or-left, or-right, and-both, and-parts}
 use Rattle.records.proofs.AcceptedLaws.{passes-1}
 use Rattle.chase.proofs.AcceptanceLaws.{accepted-signature}
 use Rattle.primary.specs.Words.{edgeOf}

@@ -18,13 +18,12 @@ use Rattle.records.specs.Steps.{conceptSteps}
 use Rattle.chase.specs.Forest.{Forest, bare, size, walk, walks}
 use Rattle.records.specs.Reading.{conceptAt, HasConcept}
 use Rattle.chase.proofs.SizeLaws.{walks-size}
-use Rattle.chase.specs.Bounds.{maxNodes}
+use Rattle.chase.specs.Bounds.{maxNodes, maxForest}
 use Rattle.ground.specs.Objects.{forestIn, groundIn}
 use Rattle.forest.specs.declared.places.Here.{Here}
 use Rattle.forest.specs.Kept.{Kept, Grows}
 use Rattle.forest.specs.Places.{Begins}
 use Rattle.forest.specs.Walking.{walked, CanWalk, Walked, Walks}
-use Rattle.chase.specs.Bounds.{maxForest}
 use Rattle.forest.proofs.ObjectLaws.{forest-none, size-laid}
 use Rattle.forest.proofs.GrowLaws.{grows-then, grows-self}
 use Rattle.forest.proofs.WalkLaws.{walk-more, same-size}

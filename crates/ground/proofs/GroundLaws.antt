@@ -14,8 +14,8 @@ use Rattle.chase.specs.Task.{Task, WellFormed, nodes, constantNode, asked}
 use Rattle.chase.specs.Primary.{Prime, repOf, setOf, primary}
 use Rattle.chase.specs.Ground.{setAt, live, objectOf, listing, renumber, groundOf, ground}
 use Rattle.chase.proofs.Answers.{ground-is}
-use Rattle.chase.proofs.CountLaws.{count-le}
-use Rattle.chase.proofs.ListLaws.{getD-map}
+use Rattle.records.proofs.General.FiniteLaws.{count-le}
+use Rattle.records.proofs.General.ListLaws.{getD-map}
 use Rattle.primary.specs.Formed.{prime}
 use Rattle.chase.specs.Bounds.{maxNodes}
 use Rattle.primary.specs.Words.{edgeOf}

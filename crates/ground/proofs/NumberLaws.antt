@@ -11,7 +11,7 @@ use lib.Seq.{take-set-le, take-suc-set}
 use mir.Val.{boolByte}
 use Rattle.records.specs.Finite.{count}
 use Rattle.records.specs.Layout.{maxObjects}
-use Rattle.records.proofs.FiniteLaws.{count-turn, count-le}
+use Rattle.records.proofs.General.FiniteLaws.{count-turn, count-le}
 use Rattle.chase.specs.Loops.{upto}
 use Rattle.chase.specs.Primary.{Prime, repOf, setOf}
 use Rattle.chase.specs.Ground.{live, objectOf, listing}

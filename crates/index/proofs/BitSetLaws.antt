@@ -14,7 +14,7 @@ use lib.ListN.{length, length-set, getD, set, replicate, length-replicate, getD-
 use lib.Pow.{shl-exact}
 use lib.Seq.{getD-set-same, getD-set-other}
 use Rattle.index.specs.BitSet.{wordBits, bit, bitAt, Inserted}
-use Rattle.index.proofs.TestLaws.{eqb-same}
+use Rattle.records.proofs.General.BoolLaws.{eqb-same}
 use Rattle.index.proofs.BitLaws.{word-or, word-zero, word-one}
 
 -- a number past the end is not in the set

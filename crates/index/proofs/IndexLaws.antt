@@ -11,11 +11,10 @@ use lib.ListN.{length, replicate, length-replicate}
 use Rattle.records.specs.Finite.{any}
 use Rattle.records.specs.Layout.{stateLayout, entries, leftAt, objectPart, factKinds}
 use Rattle.records.specs.StateRecord.{kindAt, objectAt, says}
-use Rattle.records.proofs.BoolLaws.{and-both, and-map}
-use Rattle.records.proofs.FiniteLaws.{any-zero, any-more, any-same}
+use Rattle.records.proofs.General.BoolLaws.{and-both, and-map, test-same, eqb-same}
+use Rattle.records.proofs.General.FiniteLaws.{any-zero, any-more, any-same}
 use Rattle.index.specs.BitSet.{bitAt, Inserted}
 use Rattle.index.specs.Index.{tableBits, tableWords, leftIs, Indexes}
-use Rattle.index.proofs.TestLaws.{test-same, eqb-same}
 use Rattle.index.proofs.BitSetLaws.{zero-bits}
 
 -- The index of the first i facts.

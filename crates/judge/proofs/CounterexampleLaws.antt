@@ -6,7 +6,7 @@ use mathlib.Core.Path.{_≡_, ap₂, _∙_}
 use native.Mathlib.Omega.{arith}
 use borrow.Author.Tests.{eq-eqb, ne-eqb, lt-ltb, le-ltb}
 use Rattle.records.specs.Finite.{least}
-use Rattle.records.proofs.FiniteLaws.{least-le, least-passes, least-first, least-is}
+use Rattle.records.proofs.General.FiniteLaws.{least-same}
 use Rattle.records.specs.Layout.{objectPart}
 use Rattle.records.specs.State.{State}
 use Rattle.records.specs.Schema.{Schema}
@@ -16,11 +16,6 @@ use Rattle.index.specs.BitSet.{bitAt}
 use Rattle.evaluate.specs.Selection.{Selection}
 use Rattle.judge.specs.declared.counterexample.CounterexampleAnswer.the-variants.{No, Yes}
 use Rattle.judge.specs.Counterexample.{separates, lowest, finding, apart}
-
-least-same : (f g : ℕ → Bool) (n : ℕ) → ((i : ℕ) → i < n → f i ≡ g i) → least n f ≡ least n g
-least-same f g n same =
-    least-is f n (least n g) (least-le g n) (λ h. same (least n g) h ∙ least-passes g n h)
-    (λ i h. same i (omega (arith, least-le g n)) ∙ least-first g n i h)
 
 -- the search over the two sets is that over the concepts
 pub lowest-is : (I : State) (query view : Concept) (inside outside : List ℕ) → Selection I query inside → Selection I view outside → I .size ≤ objectPart

@@ -11,7 +11,7 @@ use Rattle.records.specs.Layout.{objectPart}
 use Rattle.records.specs.State.{State}
 use Rattle.records.specs.Concept.{Concept}
 use Rattle.records.specs.Executable.{isIn}
-use Rattle.records.proofs.FiniteLaws.{count-same}
+use Rattle.records.proofs.General.FiniteLaws.{count-same}
 use Rattle.index.specs.BitSet.{bitAt}
 use Rattle.evaluate.specs.Selection.{Selection}
 use Rattle.judge.specs.declared.select.SelectAnswer.the-variants.{Selected}

@@ -10,8 +10,8 @@ use Rattle.records.specs.declared.schema.Axiom.the-variants.{Subclass, Typing, 
 use Rattle.records.specs.Finite.{any}
 use Rattle.records.specs.Layout.{stateLayout, entries, attributeKinds}
 use Rattle.records.specs.StateRecord.{kindAt}
-use Rattle.records.proofs.BoolLaws.{and-left}
-use Rattle.records.proofs.FiniteLaws.{none-any}
+use Rattle.records.proofs.General.BoolLaws.{and-left}
+use Rattle.records.proofs.General.FiniteLaws.{none-any}
 use Rattle.index.specs.Kinds.{KindParts}
 use Rattle.index.proofs.KindLaws.{kind-before, kind-after}
 use Rattle.legality.specs.Breaks.{objectBreaks, pairBreaks}

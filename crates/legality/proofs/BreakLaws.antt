@@ -15,8 +15,8 @@ use Rattle.records.specs.Schema.{Holds}
 use Rattle.records.specs.Layout.{stateLayout, entries, rightAt, attributeKinds, factKinds}
 use Rattle.records.specs.StateRecord.{objects, kindAt, objectAt, says, stateOf}
 use Rattle.records.specs.Refusal.{AcceptedState}
-use Rattle.records.proofs.BoolLaws.{and-both, and-map, and-three-map, not-both, false-of-not}
-use Rattle.records.proofs.FiniteLaws.{any-none}
+use Rattle.records.proofs.General.BoolLaws.{and-both, and-map, and-three-map, not-both, false-of-not}
+use Rattle.records.proofs.General.FiniteLaws.{any-none}
 use Rattle.index.specs.Index.{Indexes}
 use Rattle.index.proofs.IndexLaws.{index-says}
 use Rattle.records.specs.InRange.{AxiomInRange}

@@ -12,8 +12,8 @@ use Rattle.records.specs.declared.schema.Signature.{Signature}
 use Rattle.records.specs.Layout.{stateLayout, entries, leftAt, rightAt, maxObjects}
 use Rattle.records.specs.StateRecord.{objects, kindAt, objectAt, saysPair}
 use Rattle.records.specs.Refusal.{AcceptedState, faultyFact}
-use Rattle.records.proofs.BoolLaws.{and-right, and-both, and-three-iff}
-use Rattle.records.proofs.FiniteLaws.{any-iff}
+use Rattle.records.proofs.General.BoolLaws.{and-right, and-both, and-three-iff}
+use Rattle.records.proofs.General.FiniteLaws.{any-iff}
 use Rattle.records.proofs.ExecutableLaws.{eqb-iff}
 use Rattle.records.proofs.AcceptedLaws.{passes-7, passes-8, objects-few, fact-faultless}
 use Rattle.records.proofs.StateScanLaws.{fact-object, fact-second}

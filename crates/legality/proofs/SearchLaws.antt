@@ -16,8 +16,8 @@ use Rattle.records.specs.Layout.{schemaLayout, stateLayout, entries, maxFacts}
 use Rattle.records.specs.SchemaRecord.{schemaOf}
 use Rattle.records.specs.StateRecord.{objects as objectsOf, stateOf}
 use Rattle.records.specs.InRange.{AxiomInRange}
-use Rattle.records.proofs.BoolLaws.{false-of, not-of-false}
-use Rattle.records.proofs.FiniteLaws.{any-zero, any-still, any-none, none-any, least-is}
+use Rattle.records.proofs.General.BoolLaws.{false-of, not-of-false}
+use Rattle.records.proofs.General.FiniteLaws.{any-zero, any-still, any-none, none-any, least-is}
 use Rattle.records.proofs.ExecutableLaws.{holds-iff}
 use Rattle.records.proofs.AcceptedLaws.{axiom-in-range, passes-7, facts-few}
 use Rattle.index.specs.Kinds.{KindsRise, KindParts}

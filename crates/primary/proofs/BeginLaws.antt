@@ -3,13 +3,10 @@ use Prim.Native.Nat.{ℕ, zero, suc, _+_, _≤_, _<_}
 use native.Mathlib.Nat.{zero-add}
 use native.Mathlib.Numerals.{add-one}
 use native.Mathlib.Omega.{arith}
-use mathlib.Core.Bool.{Bool, _||_}
 use mathlib.Core.List.{List, [], _∷_, _++_}
 use mathlib.Core.Path.{_≡_, refl, sym, ap, ap₂, _∙_}
 use lib.ListN.{length, set, take, replicate}
 use lib.Seq.{take-all, take-suc-set}
-use Rattle.records.specs.Finite.{any}
-use Rattle.records.proofs.FiniteLaws.{any-more}
 use Rattle.chase.specs.Task.{Task, nodes}
 use Rattle.records.specs.Steps.{conceptSteps}
 use Rattle.chase.specs.Primary.{Prime, repOf, numbersFrom, begin, primary, clash}
@@ -48,10 +45,6 @@ replicate-snoc (suc n) v = ap (λ (m : List ℕ). v ∷ m) (replicate-snoc n v)
 pub listed-zeros : (n : ℕ) → listed (λ i. 0) n ≡ replicate n 0
 listed-zeros zero = refl
 listed-zeros (suc n) = ap (λ (m : List ℕ). m ++ (0 ∷ [])) (listed-zeros n) ∙ sym (replicate-snoc n 0)
-
--- a search that keeps whether some number passed
-pub any-turn : (f : ℕ → Bool) (n : ℕ) (b : Bool) → b ≡ any n f → (b || f n) ≡ any (n + 1) f
-any-turn f n b e = ap (λ (t : Bool). t || f n) e ∙ sym (any-more f n)
 
 -- for callers: the start of a task, and its clash
 pub begin-is : (t : Task) (r s : List ℕ) (n : ℕ) → n ≡ nodes t → r ≡ numbersFrom 0 n → s ≡ replicate n 0 → prime r s ≡ begin t

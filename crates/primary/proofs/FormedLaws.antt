@@ -14,8 +14,8 @@ use Rattle.chase.specs.Facts.{Edge}
 use Rattle.chase.specs.Axioms.{isSingle}
 use Rattle.primary.specs.Words.{EdgeIn, EdgesIn, MembersIn}
 use Rattle.chase.specs.Loops.{each, upto}
-use Rattle.chase.proofs.TestLaws.{cond-elim}
-use Rattle.chase.proofs.ListLaws.{getD-map}
+use Rattle.records.proofs.General.BoolLaws.{cond-elim}
+use Rattle.records.proofs.General.ListLaws.{getD-map}
 use Rattle.classes.proofs.TurnLaws.{upto-none, upto-more}
 use Rattle.primary.specs.Formed.{prime, moved, Formed, Becomes}
 use Rattle.primary.proofs.TurnLaws.{passed, passed-none, passed-more, passed-all}

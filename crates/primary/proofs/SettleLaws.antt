@@ -12,7 +12,7 @@ use Rattle.records.specs.Refusal.{AcceptedSchema, AcceptedConcept}
 use Rattle.records.proofs.AcceptedLaws.{passes-1, passes-2, passes-4, passes-5, passes-6, accepted-limit}
 use Rattle.chase.specs.Task.{Task, WellFormed, nodes, asked, taskOf}
 use Rattle.chase.specs.Primary.{Prime, repOf, pass, weight, begin, bound, settled, primary}
-use Rattle.chase.proofs.All.{All, all-unmapped, all-getD}
+use Rattle.records.proofs.General.AllLaws.{All, all-unmapped, all-getD}
 use Rattle.chase.proofs.AcceptanceLaws.{accepted-signature, accepted-formed}
 use Rattle.chase.proofs.LoopLaws.{grows-le, still}
 use Rattle.chase.proofs.PrimeLaws.{Ok, weight-bound}

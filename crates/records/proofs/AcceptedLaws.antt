@@ -25,8 +25,8 @@ use Rattle.records.specs.Refusal.{misshapen, outside, oversized, declare
 use Rattle.records.specs.Steps.{conceptSteps}
 use Rattle.records.specs.Reading.{startOf, HasConcept, stepToken, stepNumber}
 use Rattle.records.specs.InRange.{AxiomInRange, TokenInRange}
-use Rattle.records.proofs.BoolLaws.{or-false-left, or-false-right, and-map, and-three-map}
-use Rattle.records.proofs.FiniteLaws.{any-none}
+use Rattle.records.proofs.General.BoolLaws.{or-false-left, or-false-right, and-map, and-three-map}
+use Rattle.records.proofs.General.FiniteLaws.{any-none}
 use Rattle.records.proofs.ReadingLaws.{number-concept, whole-concept}
 
 -- The answer "accepted" is given only where no test applies.

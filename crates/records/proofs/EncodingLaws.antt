@@ -19,7 +19,7 @@ use Rattle.records.specs.StateRecord.{objects, kindAt, objectAt}
 use Rattle.records.specs.Refusal.{misshapen, isStep, stepAt, steps}
 use Rattle.records.specs.Encoding.{recordOf, Words, leftOf, rightOf, schemaRecord, axiomWords, stepsIn, conceptRecord, fact, leftWord, rightWord, stateRecord}
 use Rattle.records.specs.InRange.{AxiomInRange}
-use Rattle.records.proofs.FiniteLaws.{count-same}
+use Rattle.records.proofs.General.FiniteLaws.{count-same}
 
 -- the size words of a layout, for n entries
 pub record Sizes (L : Layout) (sizes : List ℕ) (n : ℕ) : Type 0 where

@@ -22,8 +22,8 @@ use Rattle.records.specs.StateRecord.{objects, kindAt, objectAt, says, s
 use Rattle.records.specs.Refusal.{misshapen, refusal-1, faultyAxiom, refusal-2, schemaAnswer, schemaNumber, refusal-3, faultyToken, refusal-4, refusal-5, steps, refusal-6, conceptAnswer, conceptNumber, refusal-7, faultyFact, refusal-8, ascends, refusal-9, refusal-10, stateAnswer, stateNumber}
 use Rattle.records.specs.Encoding.{recordOf, schemaRecord, conceptRecord, stepsIn, fact, stateRecord}
 use Rattle.records.specs.Executable.{isIn, firstBroken}
-use Rattle.records.proofs.BoolLaws.{or-true-cases, false-of-not, and-map, and-three-map, same-iff}
-use Rattle.records.proofs.FiniteLaws.{all-at}
+use Rattle.records.proofs.General.BoolLaws.{or-true-cases, false-of-not, and-map, and-three-map, same-iff}
+use Rattle.records.proofs.General.FiniteLaws.{all-at}
 use Rattle.records.proofs.ExecutableLaws.{isIn-iff, first-broken-none, first-broken-at, first-broken-before}
 
 -- Rows.

@@ -14,8 +14,8 @@ use Rattle.records.specs.Schema.{Schema, Holds}
 use Rattle.records.specs.Concept.{Direction, forward, backward, Concept, class, everything, constant, both, reached, common, Path, empty, step}
 use Rattle.records.specs.Semantics.{Steps, In, Leads}
 use Rattle.records.specs.Executable.{stepsTo, isIn, leadsTo, implies, holds, firstBroken}
-use Rattle.records.proofs.BoolLaws.{and-iff, and-three-iff, not-both, false-of-not}
-use Rattle.records.proofs.FiniteLaws.{all-iff, any-iff, least-passes, least-first, least-none}
+use Rattle.records.proofs.General.BoolLaws.{and-iff, and-three-iff, not-both, false-of-not}
+use Rattle.records.proofs.General.FiniteLaws.{all-iff, any-iff, least-passes, least-first, least-none}
 
 pub eqb-iff : (m n : ℕ) → So (eqb m n) ↔ (m ≡ n)
 eqb-iff m n = (eqb-true m n, eq-eqb m n)

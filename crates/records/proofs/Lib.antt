@@ -1,6 +1,5 @@
 -- Laws that callers' proofs cite, and those that several proofs here share.
-pub mod BoolLaws
-pub mod FiniteLaws
+pub mod General
 pub mod ExecutableLaws
 pub mod NamesLaws
 pub mod EncodingLaws

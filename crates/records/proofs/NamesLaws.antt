@@ -5,8 +5,8 @@ use mathlib.Core.Bool.{false, false≢true}
 use mathlib.Core.Path.{_≡_, sym, _∙_}
 use borrow.Author.Tests.{eqb-true, eq-eqb}
 use Rattle.records.specs.State.{sameAs, repeats}
-use Rattle.records.proofs.BoolLaws.{false-of}
-use Rattle.records.proofs.FiniteLaws.{any-none, none-any}
+use Rattle.records.proofs.General.BoolLaws.{false-of}
+use Rattle.records.proofs.General.FiniteLaws.{any-none, none-any}
 
 -- f tells all that g tells
 pub repeats-none : (f g : ℕ → ℕ) (a : ℕ) → ((b : ℕ) → b < a → f b ≡ f a → g b ≡ g a) → repeats g a ≡ false → repeats f a ≡ false

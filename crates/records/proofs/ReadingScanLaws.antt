@@ -12,8 +12,8 @@ use Rattle.records.specs.declared.concept.Token.the-variants.{Class, Eve
 use Rattle.records.specs.ConceptRecord.{tokenAt}
 use Rattle.records.specs.Finite.{count}
 use Rattle.records.specs.Refusal.{stepAt}
-use Rattle.records.proofs.BoolLaws.{and-map, and-both, not-both}
-use Rattle.records.proofs.FiniteLaws.{count-turn, count-le}
+use Rattle.records.proofs.General.BoolLaws.{and-map, and-both, not-both}
+use Rattle.records.proofs.General.FiniteLaws.{count-turn, count-le}
 use Rattle.records.specs.Reading.{takes, startOf, stepNumber}
 
 pub takes-few : (t : Token) → takes t ≤ 2

@@ -12,7 +12,7 @@ use Rattle.records.specs.ConceptRecord.{Item, concept, path, tokenAt}
 use Rattle.records.specs.Refusal.{isStep, stepAt}
 use Rattle.records.specs.Steps.{conceptSteps, pathSteps}
 use Rattle.records.specs.Reading.{startOf, stepToken, stepNumber}
-use Rattle.records.proofs.FiniteLaws.{count-next, count-still}
+use Rattle.records.proofs.General.FiniteLaws.{count-next, count-still}
 use Rattle.records.proofs.PileLaws.{lastToken, operands, Ends, at-suc, ends-token, ends-none, ends-one, ends-two}
 
 module _ (w : List ℕ) where

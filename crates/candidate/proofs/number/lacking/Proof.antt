@@ -4,7 +4,7 @@ use borrow.Author.Needs.{needs}
 use native.Mathlib.Omega.{arith}
 use mathlib.Core.Bool.{false}
 use mathlib.Core.Path.{_≡_, sym, ap, _∙_}
-use Rattle.records.proofs.FiniteLaws.{any-zero, any-still}
+use Rattle.records.proofs.General.FiniteLaws.{any-zero, any-still}
 use Rattle.records.specs.Finite.{any}
 use Rattle.records.specs.SchemaRecord.{schemaOf}
 use Rattle.records.specs.declared.schema.Signature.{Signature}

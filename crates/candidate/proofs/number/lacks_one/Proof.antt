@@ -4,7 +4,7 @@ use borrow.Author.Needs.{needs}
 use native.Mathlib.Omega.{arith}
 use mathlib.Core.Bool.{false}
 use mathlib.Core.Path.{_≡_, sym, _∙_}
-use Rattle.records.proofs.FiniteLaws.{any-zero, any-still}
+use Rattle.records.proofs.General.FiniteLaws.{any-zero, any-still}
 use Rattle.records.specs.Finite.{any}
 use Rattle.records.specs.Schema.{Schema}
 use Rattle.chase.specs.Axioms.{collect, needsBy}

@@ -1,7 +1,7 @@
 -- The table's rule is one test at each of its entries, which is computed.
 use Prim.Native.Nat.{ℕ}
 use Rattle.chase.specs.ClassSet.{place}
-use Rattle.records.proofs.FiniteLaws.{all-at}
+use Rattle.records.proofs.General.FiniteLaws.{all-at}
 use Rattle.records.specs.Finite.{all}
 use Rattle.records.specs.Layout.{maxClasses}
 use borrow.Author.Needs.{needs}

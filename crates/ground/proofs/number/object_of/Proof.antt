@@ -5,7 +5,7 @@ use native.Mathlib.Nat.{le-antisymm}
 use native.Mathlib.Omega.{arith}
 use mathlib.Core.Path.{_≡_, ap, _∙_}
 use Rattle.records.proofs.ConceptScanLaws.{byte-small}
-use Rattle.records.proofs.FiniteLaws.{count-le, count-turn}
+use Rattle.records.proofs.General.FiniteLaws.{count-le, count-turn}
 use Rattle.records.specs.Finite.{count}
 use Rattle.chase.specs.Ground.{objectOf}
 use Rattle.chase.specs.Primary.{repOf}

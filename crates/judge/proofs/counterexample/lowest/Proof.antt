@@ -7,7 +7,7 @@ use mathlib.Core.Path.{_≡_, sym}
 use native.Mathlib.Omega.{arith}
 use native.Mathlib.Nat.{le-antisymm, le-refl, le-of-lt}
 use Rattle.records.specs.Finite.{any}
-use Rattle.records.proofs.FiniteLaws.{any-zero, any-still, any-none, least-is}
+use Rattle.records.proofs.General.FiniteLaws.{any-zero, any-still, any-none, least-is}
 use Rattle.judge.proofs.counterexample.lowest.Statement.{statement}
 use Rattle.judge.proofs.counterexample.lowest.Tie as tie
 

@@ -1,13 +1,11 @@
 -- The sets passed are empty.
-use Prim.Native.Nat.{_-_, _≤_}
+use Prim.Native.Nat.{_-_, _≤_, ℕ}
 use borrow.Author.Needs.{needs}
 use native.Mathlib.Omega.{arith}
 use mathlib.Core.Path.{_≡_, refl, ap, _∙_}
 use native.Mathlib.Nat.{le-antisymm}
-use lib.ListN.{length, take, length-set}
+use lib.ListN.{length, take, length-set, replicate}
 use Rattle.primary.proofs.BeginLaws.{listed, listed-more, listed-all, listed-zeros}
-use Prim.Native.Nat.{ℕ}
-use lib.ListN.{replicate}
 use Rattle.primary.proofs.begin.clear.Statement.{statement}
 use Rattle.primary.proofs.begin.clear.Tie as tie
 

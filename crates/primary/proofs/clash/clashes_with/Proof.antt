@@ -5,8 +5,7 @@ use native.Mathlib.Omega.{arith}
 use mathlib.Core.Path.{_≡_, sym, ap, _∙_}
 use native.Mathlib.Nat.{le-antisymm}
 use Rattle.records.specs.Finite.{any}
-use Rattle.records.proofs.FiniteLaws.{any-zero}
-use Rattle.primary.proofs.BeginLaws.{any-turn}
+use Rattle.records.proofs.General.FiniteLaws.{any-zero, any-turn}
 use Rattle.primary.specs.Clash.{repAt}
 use Rattle.records.specs.State.{sameAs, repeats}
 use Rattle.primary.proofs.clash.clashes_with.Statement.{statement}

@@ -6,11 +6,10 @@ use mathlib.Core.Path.{sym, _∙_}
 use lib.ListN.{length}
 use Rattle.primary.specs.Formed.{prime, Becomes}
 use Rattle.primary.proofs.TurnLaws.{passed}
-use Rattle.primary.proofs.FormedLaws.{words-none, words-more, words-all}
+use Rattle.primary.proofs.FormedLaws.{words-none, words-more, words-all, edge-sized}
 use Rattle.records.specs.SchemaRecord.{schemaOf}
 use Rattle.chase.specs.Primary.{unify}
 use Rattle.primary.specs.Words.{edgeOf}
-use Rattle.primary.proofs.FormedLaws.{edge-sized}
 use Rattle.primary.proofs.rules.unify_row.Statement.{statement}
 use Rattle.primary.proofs.rules.unify_row.Tie as tie
 

@@ -1,6 +1,6 @@
 -- Until an axiom is faulty, none before it is.
 use Prim.Native.Nat.{_-_, _≤_}
-use Rattle.records.proofs.FiniteLaws.{any-of, any-still, any-zero}
+use Rattle.records.proofs.General.FiniteLaws.{any-of, any-still, any-zero}
 use Rattle.records.proofs.RefusalLaws.{answer-1, answer-2, schema-accepted}
 use Rattle.records.specs.Finite.{any}
 use Rattle.records.specs.Refusal.{faultyAxiom, refusal-2}

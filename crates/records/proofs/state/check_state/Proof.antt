@@ -1,6 +1,6 @@
 -- The scan keeps the faults, the order and the names of the facts passed (Kept of StateScanLaws).
 use Prim.Native.Nat.{_-_, _≤_, ℕ}
-use Rattle.records.proofs.FiniteLaws.{any-of}
+use Rattle.records.proofs.General.FiniteLaws.{any-of}
 use Rattle.records.proofs.RefusalLaws.{answer-10, answer-7, answer-8, answer-9, state-accepted}
 use Rattle.records.proofs.StateScanLaws.{Kept, kept-10, kept-8, kept-9, kept-more, kept-none}
 use Rattle.records.specs.Layout.{entries, stateLayout}

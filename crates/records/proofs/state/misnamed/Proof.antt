@@ -1,7 +1,7 @@
 -- Until a constant is misnamed, none before it is.
 use Prim.Native.Nat.{_-_, _≤_}
-use Rattle.records.proofs.BoolLaws.{or-right}
-use Rattle.records.proofs.FiniteLaws.{any-of, any-still, any-zero}
+use Rattle.records.proofs.General.BoolLaws.{or-right}
+use Rattle.records.proofs.General.FiniteLaws.{any-of, any-still, any-zero}
 use Rattle.records.specs.Finite.{any}
 use Rattle.records.specs.Scan.{misnamed, misnamedAt}
 use borrow.Author.Needs.{needs}

@@ -1,6 +1,6 @@
 -- Until an earlier constant has the same object, none before it has.
 use Prim.Native.Nat.{_-_, _≤_}
-use Rattle.records.proofs.FiniteLaws.{any-of, any-still, any-zero}
+use Rattle.records.proofs.General.FiniteLaws.{any-of, any-still, any-zero}
 use Rattle.records.specs.Finite.{any}
 use Rattle.records.specs.Scan.{namedIn}
 use Rattle.records.specs.State.{sameAs, repeats}

@@ -1,5 +1,5 @@
 -- Whether the fact names a constant.
-use Rattle.records.proofs.BoolLaws.{and-left, and-right}
+use Rattle.records.proofs.General.BoolLaws.{and-left, and-right}
 use borrow.Author.Needs.{needs}
 use borrow.Author.Tests.{leb-true, ltb-true}
 use lib.Dec.{leb}

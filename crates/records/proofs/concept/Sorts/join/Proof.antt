@@ -1,6 +1,6 @@
 -- The two tests of the definition.
 use Prim.Native.Nat.{_≤_}
-use Rattle.records.proofs.BoolLaws.{or-false-left}
+use Rattle.records.proofs.General.BoolLaws.{or-false-left}
 use borrow.Author.Needs.{needs}
 use borrow.Author.Tests.{ltb-false}
 use lib.Dec.{ltb}

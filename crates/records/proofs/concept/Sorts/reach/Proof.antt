@@ -1,6 +1,6 @@
 -- The two tests of the definition.
 use Prim.Native.Nat.{_%_}
-use Rattle.records.proofs.BoolLaws.{or-false-right}
+use Rattle.records.proofs.General.BoolLaws.{or-false-right}
 use borrow.Author.Tests.{eqb-true, not-false}
 use lib.Dec.{ltb}
 use mathlib.Core.Path.{_≡_}

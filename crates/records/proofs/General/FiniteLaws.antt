@@ -8,7 +8,7 @@ use native.Mathlib.Numerals.{add-one}
 use native.Mathlib.Omega.{arith}
 use mir.Val.{boolByte}
 use Rattle.records.specs.Finite.{all, any, count, least}
-use Rattle.records.proofs.BoolLaws.{or-false-left, or-false-right, or-true-cases, or-left, or-right, and-left, and-right, and-both, not-both}
+use Rattle.records.proofs.General.BoolLaws.{or-false-left, or-false-right, or-true-cases, or-left, or-right, and-left, and-right, and-both, not-both}
 
 -- k is the lowest below n that passes, or n where none does
 record First (f : ℕ → Bool) (n k : ℕ) : Type 0 where
@@ -210,3 +210,12 @@ pub count-same : (f g : ℕ → Bool) (n : ℕ) → ((i : ℕ) → i < n → f i
 unfolding count
 count-same f g zero h = refl
 count-same f g (suc n) h = rw (h n (omega arith), count-same f g n (λ i l. h i (omega arith)))
+
+pub least-same : (f g : ℕ → Bool) (n : ℕ) → ((i : ℕ) → i < n → f i ≡ g i) → least n f ≡ least n g
+least-same f g n same =
+    least-is f n (least n g) (least-le g n) (λ h. same (least n g) h ∙ least-passes g n h)
+    (λ i h. same i (omega (arith, least-le g n)) ∙ least-first g n i h)
+
+-- a search that keeps whether some number passed
+pub any-turn : (f : ℕ → Bool) (n : ℕ) (b : Bool) → b ≡ any n f → (b || f n) ≡ any (n + 1) f
+any-turn f n b e = ap (λ (t : Bool). t || f n) e ∙ sym (any-more f n)

@@ -1,6 +1,9 @@
--- What a joined test tells of its parts.
-use mathlib.Core.Bool.{Bool, true, false, So, not, _&&_, _||_, Bool·beq, true≢false, false≢true}
-use mathlib.Core.Path.{_≡_, refl}
+-- What a joined test tells of its parts, and statements of a choice by what its test says.
+use Prim.Native.Nat.{ℕ}
+use mathlib.Core.Bool.{Bool, true, false, So, cond, not, _&&_, _||_, Bool·beq, true≢false, false≢true}
+use mathlib.Core.Path.{_≡_, refl, sym}
+use lib.Dec.{eqb}
+use borrow.Author.Tests.{eq-eqb, eqb-true}
 use mathlib.Core.Logic.{_⊎_, inl, inr, _↔_, Iff·rfl}
 
 pub or-false-left : (a b : Bool) → (a || b) ≡ false → a ≡ false
@@ -71,3 +74,38 @@ same-iff true true e = Iff·rfl
 same-iff true false e = absurd (false≢true e)
 same-iff false true e = absurd (false≢true e)
 same-iff false false e = Iff·rfl
+
+-- Both parts at once.
+
+pub or-false : (a b : Bool) → a || b ≡ false → (a ≡ false) × (b ≡ false)
+or-false a b h = (or-false-left a b h, or-false-right a b h)
+
+pub and-parts : (a b : Bool) → So (a && b) → So a × So b
+and-parts a b h = (and-left a b h, and-right a b h)
+
+-- of a need that is not unmet
+pub met : (a b : Bool) → a && not b ≡ false → So a → So b
+met true true h k = refl
+met true false h k = absurd (false≢true (sym h))
+met false b h k = absurd (false≢true k)
+
+-- a statement of a choice, by what its test says
+pub cond-elim : {A : Type 0} (X : A → Type 0) (b : Bool) {x y : A} → (So b → X x) → (b ≡ false → X y) → X (cond b x y)
+cond-elim X true h k = h refl
+cond-elim X false h k = k refl
+
+-- .. and of two choices by one test
+pub cond-elim₂ : {A B : Type 0} (X : A → B → Type 0) (b : Bool) {x y : A} {z w : B} → (So b → X x z) → (b ≡ false → X y w)
+    → X (cond b x y) (cond b z w)
+cond-elim₂ X true h k = h refl
+cond-elim₂ X false h k = k refl
+
+-- Two tests that hold together are equal.
+
+pub test-same : (a b : Bool) → (So a → So b) → (So b → So a) → a ≡ b
+test-same true b f g = sym (f refl)
+test-same false true f g = g refl
+test-same false false f g = refl
+
+pub eqb-same : (a b c d : ℕ) → (a ≡ b → c ≡ d) → (c ≡ d → a ≡ b) → eqb a b ≡ eqb c d
+eqb-same a b c d f g = test-same (eqb a b) (eqb c d) (λ t. eq-eqb c d (f (eqb-true a b t))) (λ t. eq-eqb a b (g (eqb-true c d t)))

@@ -4,8 +4,8 @@ use native.Mathlib.Omega.{arith}
 use mathlib.Core.List.{List, [], _∷_, _++_}
 use mathlib.Core.Path.{_≡_}
 use lib.ListN.{length, getD}
-use Rattle.chase.proofs.All.{All, all-append, all-map, all-at}
-use Rattle.chase.proofs.ListLaws.{at-mem}
+use Rattle.records.proofs.General.AllLaws.{All, all-append, all-map, all-at}
+use Rattle.records.proofs.General.ListLaws.{at-mem}
 
 abbrev pub Ascends : List ℕ → Type 0
 Ascends [] = Unit {0}

@@ -1,22 +1,22 @@
--- Counting and listing the numbers below n that pass a test: they are numbered in order and without gaps.
+-- Counting the numbers below n that pass a test: they are numbered in order and without gaps.
 use Prim.Native.Nat.{ℕ, zero, suc, _<_}
 use native.Mathlib.Omega.{arith}
 use native.Mathlib.Decide.{decLt}
 use mathlib.Core.Bool.{Bool, So, cond}
-use mathlib.Core.Path.{_≡_, refl, ap, subst, _∙_}
-use mathlib.Core.List.{List, [], _∷_, _++_}
+use mathlib.Core.Path.{_≡_, ap, subst, _∙_}
 use lib.Dec.{eqb}
-use lib.ListN.{length, getD, length-append, List·getD-append}
-use lib.Seq.{getD-at}
 use borrow.Author.Tests.{eqb-true, eqb-false}
 use Rattle.records.specs.Finite.{count}
-use Rattle.records.proofs.BoolLaws.{false-of}
-use Rattle.records.proofs.FiniteLaws.{none-count, count-mono, count-next, count-still}
-pub use Rattle.records.proofs.FiniteLaws.{count-le, any-of, any-found}
-use Rattle.chase.specs.Loops.{upto}
-use Rattle.chase.specs.Ground.{listing}
-use Rattle.chase.proofs.TestLaws.{cond-elim, cond-elim₂}
-use Rattle.chase.proofs.Numbers.{up-to}
+use Rattle.records.proofs.General.BoolLaws.{false-of, cond-elim}
+use Rattle.records.proofs.General.FiniteLaws.{none-count, count-le, count-mono, count-next, count-still}
+
+-- of the numbers up to k: of those below k, and of k
+pub up-to : (X : ℕ → Type 0) (k : ℕ) → ((d : ℕ) → d < k → X d) → X k → (d : ℕ) → d < suc k → X d
+up-to X k below here d h =
+    elim (decLt d k) [
+      | yes y ↦ below d y
+      | no n ↦ let q : k ≡ d = omega arith in subst X q here
+    ]
 
 module _ (test : ℕ → Bool) where
   -- a number that passes has fewer before it than any later number
@@ -70,26 +70,3 @@ module _ (test : ℕ → Bool) where
               | no m ↦ omega arith
             ]
       ]
-
-  module _ (f : ℕ → ℕ) where
-    pub listing-length : (n : ℕ) → length (listing test f n) ≡ count n test
-    unfolding listing upto count
-    listing-length zero = refl
-    listing-length (suc n) =
-        cond-elim₂ {A = List ℕ} (λ l c. length l ≡ c) (test n)
-        (λ _. omega (arith, length-append (listing test f n) (f n ∷ []), listing-length n)) (λ _. listing-length n)
-
-    pub listing-at : (n i : ℕ) → i < n → So (test i) → getD (listing test f n) (count i test) 0 ≡ f i
-    unfolding listing upto
-    listing-at zero i h p = absurd (omega arith)
-    listing-at (suc n) i h p =
-        up-to (λ j. So (test j) → getD (listing test f (suc n)) (count j test) 0 ≡ f j) n
-        (λ j k q.
-        cond-elim {A = List ℕ} (λ l. getD l (count j test) 0 ≡ f j) (test n)
-        (λ _. List·getD-append (listing test f n) (f n ∷ []) 0 (count j test)
-        (omega (arith, listing-length n, count-lt n j k q)) ∙ listing-at n j k q)
-        (λ _. listing-at n j k q))
-        (λ q.
-        ap (λ (b : Bool). getD (cond b (listing test f n ++ (f n ∷ [])) (listing test f n)) (count n test) 0) q
-        ∙ getD-at (listing test f n) (f n) [] 0 (count n test) (listing-length n))
-        i h p
