@@ -12,13 +12,14 @@ use Rattle.records.specs.Finite.{count}
 use Rattle.records.specs.Layout.{conceptLayout, sizeAt, entries, querySteps, maxTokens}
 use Rattle.records.specs.SchemaRecord.{signatureOf}
 use Rattle.records.specs.ConceptRecord.{conceptOf}
-use Rattle.records.specs.Refusal.{steps, refusal-5, refusal-6, AcceptedSchema, AcceptedConcept}
+use Rattle.records.specs.ConceptRefusal.{steps, refusal-5, refusal-6, AcceptedConcept}
+use Rattle.records.specs.SchemaRefusal.{AcceptedSchema}
 use Rattle.records.proofs.General.BoolLaws.{or-false-left}
 use Rattle.records.proofs.AcceptedLaws.{passes-3, passes-5, passes-6, tokens-few, token-in-range, accepted-concept, accepted-steps, accepted-limit}
-use Rattle.records.specs.Steps.{conceptSteps}
+use Rattle.records.specs.Helpers.Steps.{conceptSteps}
 use Rattle.chase.specs.Facts.{Facts}
 use Rattle.chase.specs.Task.{asked, taskOf}
-use Rattle.records.specs.Reading.{startOf, HasConcept}
+use Rattle.records.specs.Helpers.Reading.{startOf, HasConcept}
 use Rattle.chase.specs.QueryTokens.{factsAt}
 use Rattle.primary.specs.Asked.{queryTask}
 use Rattle.asked.specs.declared.words.Kind.{Kind}

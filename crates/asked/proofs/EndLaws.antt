@@ -7,8 +7,8 @@ use Rattle.records.specs.declared.concept.Token.{Token}
 use Rattle.records.specs.declared.concept.Token.the-variants.{Class, Everything, Constant, Both, Empty, Forward, Backward, Reached, Common}
 use Rattle.records.specs.Concept.{forward, backward}
 use Rattle.records.specs.ConceptRecord.{tokenAt}
-use Rattle.records.specs.Refusal.{isStep, stepAt}
-use Rattle.records.specs.Reading.{HasPath, stepNumber}
+use Rattle.records.specs.ConceptRefusal.{isStep, stepAt}
+use Rattle.records.specs.Helpers.Reading.{HasPath, stepNumber}
 use Rattle.chase.specs.QueryTokens.{endAt}
 use Rattle.records.proofs.ReadingLaws.{ReadsPath, path-reads, path-next}
 use Rattle.chase.proofs.QueryTokenLaws.{facts-empty, facts-step}

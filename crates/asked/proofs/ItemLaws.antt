@@ -9,8 +9,8 @@ use Rattle.records.specs.declared.concept.Token.{Token}
 use Rattle.records.specs.declared.concept.Token.the-variants.{Class, Everything, Constant, Both, Empty, Reached, Common}
 use Rattle.records.specs.Concept.{directionOf}
 use Rattle.records.specs.ConceptRecord.{tokenAt}
-use Rattle.records.specs.Reading.{startOf, HasConcept, HasPath, stepToken, stepNumber}
-use Rattle.records.specs.InRange.{TokenInRange}
+use Rattle.records.specs.Helpers.Reading.{startOf, HasConcept, HasPath, stepToken, stepNumber}
+use Rattle.records.specs.Helpers.InRange.{TokenInRange}
 use Rattle.records.proofs.PileLaws.{start-le}
 use Rattle.records.proofs.ReadingLaws.{Reads, ReadsStep, ReadsPath, concept-next, path-next}
 use Rattle.records.proofs.AcceptedLaws.{step-in-range}

@@ -6,10 +6,10 @@ use mathlib.Core.List.{List}
 use mathlib.Core.Path.{_≡_, refl}
 use Rattle.records.specs.Layout.{conceptLayout, entries, querySteps}
 use Rattle.records.specs.Finite.{count}
-use Rattle.records.specs.Refusal.{stepAt, steps}
+use Rattle.records.specs.ConceptRefusal.{stepAt, steps}
 use Rattle.records.proofs.General.FiniteLaws.{count-mono}
 use Rattle.chase.specs.Facts.{Facts}
-use Rattle.records.specs.Reading.{HasPath, stepNumber}
+use Rattle.records.specs.Helpers.Reading.{HasPath, stepNumber}
 use Rattle.chase.specs.QueryTokens.{endAt}
 use Rattle.asked.proofs.EndLaws.{end-step, end-empty}
 use Rattle.asked.specs.declared.words.Kind.{Kind}

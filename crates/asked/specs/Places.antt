@@ -5,9 +5,9 @@ use mathlib.Core.Path.{_≡_}
 use lib.ListN.{length}
 use Rattle.records.specs.Layout.{conceptLayout, entries, maxTokens, querySteps}
 use Rattle.records.specs.ConceptRecord.{tokenAt}
-use Rattle.records.specs.Refusal.{steps}
-use Rattle.records.specs.InRange.{TokenInRange}
-use Rattle.records.specs.Reading.{startOf}
+use Rattle.records.specs.ConceptRefusal.{steps}
+use Rattle.records.specs.Helpers.InRange.{TokenInRange}
+use Rattle.records.specs.Helpers.Reading.{startOf}
 use Rattle.chase.specs.QueryTokens.{factsAt, pathFactsAt}
 use Rattle.asked.specs.declared.words.Kind.{Kind}
 use Rattle.asked.specs.declared.words.Words.{Words}

@@ -7,7 +7,8 @@ use records::concept::tokens;
 use records::layout::word;
 ghost use Rattle.records.specs.Layout.{querySteps};
 ghost use Rattle.records.specs.SchemaRecord.{signatureOf};
-ghost use Rattle.records.specs.Refusal.{AcceptedSchema, AcceptedConcept};
+ghost use Rattle.records.specs.SchemaRefusal.{AcceptedSchema};
+ghost use Rattle.records.specs.ConceptRefusal.{AcceptedConcept};
 ghost use Rattle.asked.specs.Answer.{Asked};
 
 // `schema` is the record whose names the query uses; the promises name it, and the code has no need of it.

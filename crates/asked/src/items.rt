@@ -15,7 +15,7 @@ ghost use Prim.Native.Nat.{suc, _<_, _^_};
 ghost use Rattle.records.specs.declared.concept.Token.the-variants.{Both, Common};
 ghost use Rattle.records.specs.Concept.{directionOf};
 ghost use Rattle.records.specs.ConceptRecord.{tokenAt};
-ghost use Rattle.records.specs.Reading.{stepToken, HasConcept, HasPath};
+ghost use Rattle.records.specs.Helpers.Reading.{stepToken, HasConcept, HasPath};
 ghost use Rattle.chase.specs.QueryTokens.{endAt};
 ghost use Rattle.asked.specs.Places.{Place, ConceptGrown, PathGrown};
 

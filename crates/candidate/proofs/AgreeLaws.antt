@@ -14,7 +14,7 @@ use Rattle.records.specs.Encoding.{fact}
 use Rattle.chase.specs.ClassSet.{has}
 use Rattle.chase.specs.Ground.{Ground, ground}
 use Rattle.chase.specs.Primary.{primary}
-use Rattle.records.specs.Steps.{conceptSteps}
+use Rattle.records.specs.Helpers.Steps.{conceptSteps}
 use Rattle.chase.specs.Task.{Task, WellFormed}
 use Rattle.chase.specs.Forest.{Forest}
 use Rattle.chase.specs.Candidate.{objects, forest}

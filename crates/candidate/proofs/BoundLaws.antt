@@ -5,7 +5,7 @@ use native.Mathlib.Omega.{arith}
 use mathlib.Core.List.{List, [], _∷_}
 use lib.ListN.{length, length-append, length-map}
 use Rattle.records.specs.Layout.{querySteps, maxObjects, maxFacts}
-use Rattle.records.specs.Refusal.{AcceptedSchema}
+use Rattle.records.specs.SchemaRefusal.{AcceptedSchema}
 use Rattle.records.specs.SchemaRecord.{schemaOf}
 use Rattle.records.proofs.AcceptedLaws.{passes-1}
 use Rattle.chase.specs.Candidate.{objects}

@@ -6,7 +6,7 @@ use mathlib.Core.Path.{_≡_}
 use lib.ListN.{length}
 use Rattle.records.specs.Layout.{querySteps, maxObjects}
 use Rattle.records.specs.SchemaRecord.{schemaOf}
-use Rattle.records.specs.Refusal.{AcceptedSchema}
+use Rattle.records.specs.SchemaRefusal.{AcceptedSchema}
 use Rattle.chase.specs.Candidate.{objects}
 use Rattle.chase.specs.Bounds.{maxNodes}
 use Rattle.ground.specs.Numbers.{Inside}

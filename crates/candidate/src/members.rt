@@ -9,7 +9,7 @@ ghost use Prim.Native.Nat.{_+_, _<_, _≤_};
 ghost use mathlib.Core.List.{[]};
 ghost use Rattle.records.specs.Layout.{maxClasses};
 ghost use Rattle.records.specs.SchemaRecord.{schemaOf};
-ghost use Rattle.records.specs.Refusal.{AcceptedSchema};
+ghost use Rattle.records.specs.SchemaRefusal.{AcceptedSchema};
 ghost use Rattle.chase.specs.Written.{gather};
 ghost use Rattle.ground.specs.Objects.{forestIn, groundIn};
 ghost use Rattle.forest.specs.Kept.{Kept};

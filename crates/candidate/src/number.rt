@@ -8,7 +8,7 @@ ghost use mathlib.Core.Path.{_≡_};
 ghost use Rattle.records.specs.Layout.{maxAttributes};
 ghost use Rattle.records.specs.Schema.{Schema};
 ghost use Rattle.records.specs.SchemaRecord.{schemaOf};
-ghost use Rattle.records.specs.Refusal.{AcceptedSchema};
+ghost use Rattle.records.specs.SchemaRefusal.{AcceptedSchema};
 ghost use Rattle.chase.specs.Axioms.{collect, needsBy};
 ghost use Rattle.chase.specs.Candidate.{lacking as lackingIn, objects as objectsIn};
 ghost use Rattle.ground.specs.Objects.{forestIn, groundIn};

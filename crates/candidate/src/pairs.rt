@@ -16,7 +16,7 @@ ghost use mathlib.Core.List.{List, []};
 ghost use mathlib.Core.Path.{_≡_};
 ghost use Rattle.records.specs.Layout.{maxAttributes, maxObjects, objectPart};
 ghost use Rattle.records.specs.SchemaRecord.{schemaOf};
-ghost use Rattle.records.specs.Refusal.{AcceptedSchema};
+ghost use Rattle.records.specs.SchemaRefusal.{AcceptedSchema};
 ghost use Rattle.chase.specs.Axioms.{collect, needsBy};
 ghost use Rattle.chase.specs.Candidate.{links};
 ghost use Rattle.chase.specs.Written.{gather, pairFacts};

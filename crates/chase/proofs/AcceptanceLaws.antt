@@ -11,8 +11,9 @@ use Rattle.records.specs.declared.schema.Signature.{Signature}
 use Rattle.records.specs.Layout.{conceptLayout, entries, maxClasses, maxAttributes, maxConstants, querySteps, viewSteps}
 use Rattle.records.specs.SchemaRecord.{signatureOf, schemaOf}
 use Rattle.records.specs.ConceptRecord.{conceptOf}
-use Rattle.records.specs.Refusal.{declares, refusal-2, refusal-4, refusal-5, AcceptedSchema, AcceptedConcept}
-use Rattle.records.specs.Steps.{conceptSteps}
+use Rattle.records.specs.SchemaRefusal.{declares, refusal-2, AcceptedSchema}
+use Rattle.records.specs.ConceptRefusal.{refusal-4, refusal-5, AcceptedConcept}
+use Rattle.records.specs.Helpers.Steps.{conceptSteps}
 use Rattle.records.proofs.AcceptedLaws.{passes-1, passes-2, passes-4, passes-5, passes-6, axiom-declared, token-suits, accepted-concept, accepted-limit}
 pub use Rattle.records.proofs.AcceptedLaws.{signature-few as accepted-signature}
 use Rattle.chase.specs.Declared.{DeclaredAxiom, Declared}

@@ -18,7 +18,7 @@ use Rattle.records.proofs.General.FiniteLaws.{any-none, count-le, any-found}
 use Rattle.records.specs.Schema.{Schema, Legal}
 use Rattle.records.specs.Semantics.{In}
 use Rattle.records.specs.Subsumption.{Counterexample, Held}
-use Rattle.records.specs.Steps.{conceptSteps}
+use Rattle.records.specs.Helpers.Steps.{conceptSteps}
 use Rattle.chase.specs.ClassSet.{has}
 use Rattle.chase.specs.Task.{Task, WellFormed, nodes, startNode, constantNode, asked}
 use Rattle.chase.specs.Primary.{Prime, repOf, setOf, primary, clash}

@@ -9,7 +9,7 @@ use borrow.Author.Tests.{lt-ltb, le-ltb, ltb-true}
 use Rattle.records.specs.State.{State}
 use Rattle.records.specs.Schema.{Legal}
 use Rattle.records.specs.Semantics.{In}
-use Rattle.records.specs.Steps.{conceptSteps}
+use Rattle.records.specs.Helpers.Steps.{conceptSteps}
 use Rattle.chase.specs.Task.{Task, WellFormed, startNode, asked}
 use Rattle.records.proofs.General.BoolLaws.{cond-elim}
 use Rattle.chase.proofs.FactsLaws.{Meets, Assigns}

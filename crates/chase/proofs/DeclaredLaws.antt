@@ -11,8 +11,8 @@ use Rattle.records.specs.declared.schema.Signature.{Signature}
 use Rattle.records.specs.Concept.{Direction, forward, backward, Concept, class, everything, constant, both, reached, common, Path, empty, step}
 use Rattle.records.specs.Layout.{conceptLayout, rightAt}
 use Rattle.records.specs.ConceptRecord.{tokenAt}
-use Rattle.records.specs.Refusal.{suits}
-use Rattle.records.specs.Reading.{startOf, conceptAt, HasConcept, stepToken}
+use Rattle.records.specs.ConceptRefusal.{suits}
+use Rattle.records.specs.Helpers.Reading.{startOf, conceptAt, HasConcept, stepToken}
 use Rattle.records.proofs.SpellingLaws.{Spells, SpellsPath, spells-order, path-order}
 use Rattle.records.proofs.ReadingLaws.{concept-spells}
 use Rattle.chase.specs.Declared.{Declared, DeclaredPath}

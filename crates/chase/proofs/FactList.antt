@@ -14,7 +14,7 @@ use Rattle.records.specs.Finite.{count}
 use Rattle.records.specs.Layout.{stateLayout, entries, maxClasses, maxAttributes, maxConstants, maxObjects, maxFacts, objectPart, wordPart, attributeKinds, constantKinds, factKinds}
 use Rattle.records.specs.State.{State, Member, Related, Names}
 use Rattle.records.specs.StateRecord.{objects, kindAt, objectAt, stateOf}
-use Rattle.records.specs.Refusal.{declaresKind, suitsKind, faultyFact, ascends, descends, namesAt, misnames, refusal-7, refusal-8, refusal-9, refusal-10, AcceptedState}
+use Rattle.records.specs.StateRefusal.{declaresKind, suitsKind, faultyFact, ascends, descends, namesAt, misnames, refusal-7, refusal-8, refusal-9, refusal-10, AcceptedState}
 use Rattle.records.specs.Encoding.{fact, leftWord, rightWord, stateRecord}
 use Rattle.records.proofs.General.BoolLaws.{and-both, or-left, or-right}
 use Rattle.records.proofs.EncodingLaws.{kindOf, objectIn, fact-parts, state-objects, state-facts, state-left, state-right, state-kind, state-object, state-shaped}

@@ -11,7 +11,9 @@ use Rattle.records.specs.Subsumption.{Counterexample, Held}
 use Rattle.records.specs.SchemaRecord.{signatureOf, schemaOf}
 use Rattle.records.specs.ConceptRecord.{conceptOf}
 use Rattle.records.specs.StateRecord.{stateOf}
-use Rattle.records.specs.Refusal.{AcceptedSchema, AcceptedConcept, AcceptedState}
+use Rattle.records.specs.SchemaRefusal.{AcceptedSchema}
+use Rattle.records.specs.ConceptRefusal.{AcceptedConcept}
+use Rattle.records.specs.StateRefusal.{AcceptedState}
 use Rattle.records.proofs.ExecutableLaws.{in-dec}
 use Rattle.chase.specs.Declared.{Declared}
 use Rattle.chase.specs.Task.{Task, WellFormed, taskOf}

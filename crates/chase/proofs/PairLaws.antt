@@ -13,7 +13,7 @@ use Rattle.records.specs.Finite.{count}
 use Rattle.records.specs.Schema.{Schema}
 use Rattle.chase.specs.Loops.{anyOf}
 use Rattle.records.specs.Concept.{Direction, forward, backward, Concept, class, everything, constant, both, reached, common, Path, empty, step}
-use Rattle.records.specs.Steps.{conceptSteps, pathSteps}
+use Rattle.records.specs.Helpers.Steps.{conceptSteps, pathSteps}
 use Rattle.chase.specs.Task.{Task, asked}
 use Rattle.chase.specs.Primary.{primary}
 use Rattle.chase.specs.Facts.{Edge, Facts, equal, related, _⊕_, endNode, conceptFacts, pathFacts}

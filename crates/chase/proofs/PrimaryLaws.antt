@@ -11,7 +11,7 @@ use lib.ListN.{getD, replicate, length-replicate, getD-replicate}
 use lib.Pow.{pow-pos}
 use borrow.Author.Tests.{eqb-true}
 use Rattle.records.specs.State.{State, Member, Related}
-use Rattle.records.specs.Steps.{conceptSteps}
+use Rattle.records.specs.Helpers.Steps.{conceptSteps}
 use Rattle.chase.specs.Loops.{each}
 use Rattle.chase.specs.ClassSet.{place, has}
 use Rattle.chase.specs.Axioms.{domain, values, isSingle, raise}

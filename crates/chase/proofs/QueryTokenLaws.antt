@@ -6,9 +6,9 @@ use mathlib.Core.List.{List}
 use mathlib.Core.Path.{_≡_, sym, ap, ap₂, _∙_}
 use Rattle.records.specs.declared.concept.Token.the-variants.{Class, Everything, Constant, Both, Empty, Reached, Common}
 use Rattle.records.specs.Concept.{Direction, Concept, class, everything, constant, both, reached, common, Path}
-use Rattle.records.specs.Reading.{startOf, conceptAt, pathAt, stepNumber}
+use Rattle.records.specs.Helpers.Reading.{startOf, conceptAt, pathAt, stepNumber}
 use Rattle.records.proofs.ReadingLaws.{Reads, ReadsStep, ReadsPath, number-concept, number-path}
-use Rattle.records.specs.Steps.{conceptSteps, pathSteps}
+use Rattle.records.specs.Helpers.Steps.{conceptSteps, pathSteps}
 use Rattle.chase.specs.Facts.{none, member, equal, related, _⊕_, endNode, conceptFacts, pathFacts}
 use Rattle.chase.specs.QueryTokens.{factsAt, pathFactsAt, endAt}
 

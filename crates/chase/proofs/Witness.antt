@@ -8,7 +8,7 @@ use Rattle.records.specs.declared.schema.Signature.{Signature}
 use Rattle.records.specs.State.{State, Member, Related}
 use Rattle.records.specs.Concept.{Direction, Concept, class, everything, constant, both, reached, common, Path, empty, step}
 use Rattle.records.specs.Semantics.{Steps, In, Leads}
-use Rattle.records.specs.Steps.{conceptSteps, pathSteps}
+use Rattle.records.specs.Helpers.Steps.{conceptSteps, pathSteps}
 use Rattle.chase.specs.Facts.{Facts, endNode, conceptFacts, pathFacts}
 use Rattle.chase.specs.Declared.{Declared, DeclaredPath}
 use Rattle.records.proofs.General.Update.{put, put-same, put-other, put-elim}

@@ -11,7 +11,7 @@ use lib.ListN.{length, length-append, length-map}
 use Rattle.records.specs.Layout.{objectPart, wordPart, maxFacts, maxStateWords, attributeKinds, constantKinds, factKinds}
 use Rattle.records.specs.Schema.{Schema}
 use Rattle.records.specs.StateRecord.{stateOf}
-use Rattle.records.specs.Refusal.{AcceptedState}
+use Rattle.records.specs.StateRefusal.{AcceptedState}
 use Rattle.records.specs.Encoding.{fact}
 use Rattle.records.proofs.EncodingLaws.{state-fits, state-objects, state-length}
 use Rattle.chase.specs.ClassSet.{has}

@@ -4,7 +4,7 @@
 use Prim.Native.Nat.{ℕ, _+_}
 use mathlib.Core.List.{List, [], _∷_, _++_}
 use Rattle.records.specs.Concept.{Direction, forward, backward, Concept, class, everything, constant, both, reached, common, Path, empty, step}
-use Rattle.records.specs.Steps.{conceptSteps, pathSteps}
+use Rattle.records.specs.Helpers.Steps.{conceptSteps, pathSteps}
 
 -- the node is in the class
 pub record Membership : Type 0 where

@@ -2,7 +2,7 @@
 -- the node at that path's end.
 use Prim.Native.Nat.{ℕ}
 use mathlib.Core.List.{List}
-use Rattle.records.specs.Reading.{startOf, conceptAt, pathAt, stepNumber}
+use Rattle.records.specs.Helpers.Reading.{startOf, conceptAt, pathAt, stepNumber}
 use Rattle.chase.specs.Facts.{Facts, endNode, conceptFacts, pathFacts}
 
 module _ (first : ℕ) (w : List ℕ) (e n : ℕ) where

@@ -6,7 +6,7 @@ use Rattle.records.specs.SchemaRecord.{schemaOf}
 use Rattle.records.specs.ConceptRecord.{conceptOf}
 use Rattle.records.specs.Concept.{Concept}
 use Rattle.chase.specs.Declared.{DeclaredAxiom, Declared}
-use Rattle.records.specs.Steps.{conceptSteps}
+use Rattle.records.specs.Helpers.Steps.{conceptSteps}
 use Rattle.chase.specs.Facts.{Facts, conceptFacts}
 
 pub record Task : Type 0 where

@@ -9,7 +9,7 @@ use Rattle.records.specs.declared.schema.Axiom.{Axiom}
 use Rattle.records.specs.declared.schema.Axiom.the-variants.{Necessary}
 use Rattle.records.specs.Schema.{Schema}
 use Rattle.records.specs.SchemaRecord.{schemaOf}
-use Rattle.records.specs.Refusal.{AcceptedSchema}
+use Rattle.records.specs.SchemaRefusal.{AcceptedSchema}
 use Rattle.records.proofs.AcceptedLaws.{passes-2}
 use Rattle.chase.specs.Axioms.{only, raiseBy, domain, values, raise}
 use Rattle.chase.specs.ClassSet.{has}

@@ -9,9 +9,9 @@ use records::schema::axiom_at;
 use records::schema::axioms;
 ghost use mathlib.Core.Path.{_≡_};
 ghost use Rattle.records.specs.SchemaRecord.{schemaOf};
-ghost use Rattle.records.specs.Refusal.{AcceptedSchema};
+ghost use Rattle.records.specs.SchemaRefusal.{AcceptedSchema};
 ghost use Rattle.chase.specs.Axioms.{raise as raiseIn, closure as closureIn, image as imageIn};
-ghost use Rattle.records.specs.InRange.{AxiomInRange};
+ghost use Rattle.records.specs.Helpers.InRange.{AxiomInRange};
 ghost use Rattle.classes.specs.Domains.{DomainTable, RaisesBy};
 ghost use Rattle.classes.specs.Sets.{DeclaredSet};
 

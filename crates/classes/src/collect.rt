@@ -6,9 +6,9 @@ use records::schema::axiom_at;
 use records::schema::axioms;
 ghost use mathlib.Core.Path.{_≡_};
 ghost use Rattle.records.specs.SchemaRecord.{schemaOf};
-ghost use Rattle.records.specs.Refusal.{AcceptedSchema};
+ghost use Rattle.records.specs.SchemaRefusal.{AcceptedSchema};
 ghost use Rattle.chase.specs.Axioms.{domainBy, needsBy, singleBy, valuesBy, collect as collectIn, domain as domainIn, values as valuesIn};
-ghost use Rattle.records.specs.InRange.{AxiomInRange};
+ghost use Rattle.records.specs.Helpers.InRange.{AxiomInRange};
 ghost use Rattle.classes.specs.Asked.{addsBy};
 
 // What is collected: for an attribute, and for `Values` at an object with the classes of a set.

@@ -8,8 +8,8 @@ use records::schema::axioms;
 ghost use mathlib.Core.Path.{_≡_};
 ghost use Prim.Native.Nat.{_<_};
 ghost use Rattle.records.specs.Layout.{maxAttributes};
-ghost use Rattle.records.specs.Refusal.{AcceptedSchema};
-ghost use Rattle.records.specs.InRange.{AxiomInRange};
+ghost use Rattle.records.specs.SchemaRefusal.{AcceptedSchema};
+ghost use Rattle.records.specs.Helpers.InRange.{AxiomInRange};
 ghost use Rattle.classes.specs.Domains.{entryOf, DomainTable};
 
 // The classes of `set` are to be in the domain of `attribute`.

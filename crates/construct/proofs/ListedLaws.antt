@@ -10,7 +10,7 @@ use Rattle.records.specs.Layout.{maxFacts, querySteps}
 use Rattle.records.specs.SchemaRecord.{signatureOf, schemaOf}
 use Rattle.records.specs.ConceptRecord.{conceptOf}
 use Rattle.records.proofs.General.FiniteLaws.{count-le}
-use Rattle.records.specs.Steps.{conceptSteps}
+use Rattle.records.specs.Helpers.Steps.{conceptSteps}
 use Rattle.chase.specs.Task.{Task, nodes, asked, taskOf}
 use Rattle.chase.specs.Primary.{primary, clash}
 use Rattle.chase.specs.Ground.{live, ground}

@@ -17,7 +17,7 @@ use Rattle.records.specs.Subsumption.{Open, Held}
 use Rattle.records.specs.SchemaRecord.{signatureOf, schemaOf}
 use Rattle.records.specs.ConceptRecord.{conceptOf}
 use Rattle.records.specs.StateRecord.{stateOf}
-use Rattle.records.specs.Refusal.{AcceptedState}
+use Rattle.records.specs.StateRefusal.{AcceptedState}
 use Rattle.records.proofs.AcceptedLaws.{objects-few, passes-7}
 use Rattle.records.proofs.OutcomeLaws.{answered-at, schema-passed, query-passed, view-passed, state-passed}
 use Rattle.judge.specs.declared.counterexample.CounterexampleAnswer.{CounterexampleAnswer}

@@ -10,7 +10,7 @@ use Rattle.records.specs.Subsumption.{Counterexample, Open, Held}
 use Rattle.records.specs.SchemaRecord.{signatureOf, schemaOf}
 use Rattle.records.specs.ConceptRecord.{conceptOf}
 use Rattle.records.specs.StateRecord.{stateOf}
-use Rattle.records.specs.Refusal.{AcceptedState}
+use Rattle.records.specs.StateRefusal.{AcceptedState}
 use Rattle.records.specs.Outcome.{firstRefusal, schemaRefusal, queryRefusal, viewRefusal, lentRefusal}
 use Rattle.decide.specs.declared.DecideAnswer.{DecideAnswer}
 use Rattle.decide.specs.declared.DecideAnswer.the-variants as answers

@@ -11,7 +11,7 @@ use Rattle.records.specs.declared.schema.Signature.{Signature}
 use Rattle.records.specs.Finite.{count}
 use Rattle.records.specs.Layout.{stateLayout, entries, objectPart, attributeKinds, constantKinds, factKinds, maxObjects}
 use Rattle.records.specs.StateRecord.{objects, kindAt, objectAt, says, stateOf}
-use Rattle.records.specs.Refusal.{faultyFact, declaresKind, namesAt}
+use Rattle.records.specs.StateRefusal.{faultyFact, declaresKind, namesAt}
 use Rattle.records.proofs.General.BoolLaws.{or-false-left, and-right, and-both, false-of, test-same}
 use Rattle.records.proofs.General.FiniteLaws.{any-found, count-found}
 use Rattle.records.proofs.AcceptedLaws.{passes-7, passes-8, passes-10, objects-few, fact-faultless, constant-once}

@@ -12,7 +12,7 @@ use Rattle.records.specs.Concept.{directionOf, Concept, Path}
 use Rattle.records.specs.Layout.{conceptLayout, entries, stateLayout, objectPart, constantKinds, maxTokens}
 use Rattle.records.specs.ConceptRecord.{tokenAt, conceptOf}
 use Rattle.records.specs.StateRecord.{objects, stateOf}
-use Rattle.records.specs.Reading.{startOf, HasConcept, HasPath}
+use Rattle.records.specs.Helpers.Reading.{startOf, HasConcept, HasPath}
 use Rattle.records.proofs.AcceptedLaws.{tokens-few, accepted-concept}
 use Rattle.records.proofs.PileLaws.{start-le}
 use Rattle.records.proofs.ReadingLaws.{Reads, ReadsStep, ReadsPath, concept-next, path-next}

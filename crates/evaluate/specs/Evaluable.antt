@@ -4,7 +4,8 @@ use mathlib.Core.Bool.{false}
 use mathlib.Core.List.{List}
 use mathlib.Core.Path.{_≡_}
 use Rattle.records.specs.declared.schema.Signature.{Signature}
-use Rattle.records.specs.Refusal.{refusal-3, refusal-4, refusal-5, AcceptedState}
+use Rattle.records.specs.ConceptRefusal.{refusal-3, refusal-4, refusal-5}
+use Rattle.records.specs.StateRefusal.{AcceptedState}
 use Rattle.index.specs.Index.{Indexes}
 
 -- a concept that is turned back for nothing but its count of steps, an accepted state, and the state's index

@@ -5,7 +5,7 @@ use mathlib.Core.Path.{_≡_}
 use Rattle.records.specs.declared.schema.Signature.{Signature}
 use Rattle.records.specs.Layout.{conceptLayout, entries}
 use Rattle.records.specs.StateRecord.{stateOf}
-use Rattle.records.specs.Reading.{startOf, conceptAt, pathAt}
+use Rattle.records.specs.Helpers.Reading.{startOf, conceptAt, pathAt}
 use Rattle.evaluate.specs.declared.items.Found.{Found}
 use Rattle.evaluate.specs.Selection.{Selection, Relation}
 use Rattle.evaluate.specs.Evaluable.{Evaluable}

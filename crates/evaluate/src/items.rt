@@ -20,7 +20,7 @@ ghost use mathlib.Core.Path.{_≡_};
 ghost use Rattle.records.specs.declared.concept.Token.the-variants.{Both, Reached, Common};
 ghost use Rattle.records.specs.Concept.{directionOf};
 ghost use Rattle.records.specs.ConceptRecord.{tokenAt};
-ghost use Rattle.records.specs.Reading.{HasConcept, HasPath, stepToken};
+ghost use Rattle.records.specs.Helpers.Reading.{HasConcept, HasPath, stepToken};
 ghost use Rattle.evaluate.specs.Places.{Place, ConceptAt, PathAt};
 
 // Where a concept's tokens start, and the set that it selects.

@@ -14,7 +14,7 @@ use borrow.Author.Tests.{eqb-true, eq-eqb, ne-eqb, lt-ltb}
 use Rattle.records.specs.Layout.{maxClasses, objectPart}
 use Rattle.records.specs.Schema.{Schema}
 use Rattle.records.specs.SchemaRecord.{schemaOf}
-use Rattle.records.specs.Refusal.{AcceptedSchema}
+use Rattle.records.specs.SchemaRefusal.{AcceptedSchema}
 use Rattle.chase.specs.Loops.{anyOf}
 use Rattle.chase.specs.ClassSet.{meets, full}
 use Rattle.chase.specs.Axioms.{collect, needsBy, needs}

@@ -10,13 +10,14 @@ use Rattle.records.specs.Layout.{conceptLayout, entries, viewSteps, maxObjects}
 use Rattle.records.specs.Schema.{Schema}
 use Rattle.records.specs.SchemaRecord.{signatureOf, schemaOf}
 use Rattle.records.specs.ConceptRecord.{conceptOf}
-use Rattle.records.specs.Refusal.{AcceptedSchema, AcceptedConcept}
+use Rattle.records.specs.SchemaRefusal.{AcceptedSchema}
+use Rattle.records.specs.ConceptRefusal.{AcceptedConcept}
 use Rattle.records.proofs.AcceptedLaws.{passes-5, passes-6, accepted-concept, accepted-limit}
 use Rattle.chase.specs.Loops.{upto}
 use Rattle.chase.specs.Ground.{Ground}
-use Rattle.records.specs.Steps.{conceptSteps}
+use Rattle.records.specs.Helpers.Steps.{conceptSteps}
 use Rattle.chase.specs.Forest.{Forest, bare, size, walk, walks}
-use Rattle.records.specs.Reading.{conceptAt, HasConcept}
+use Rattle.records.specs.Helpers.Reading.{conceptAt, HasConcept}
 use Rattle.chase.proofs.SizeLaws.{walks-size}
 use Rattle.chase.specs.Bounds.{maxNodes, maxForest}
 use Rattle.ground.specs.Objects.{forestIn, groundIn}

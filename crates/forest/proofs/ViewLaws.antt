@@ -13,10 +13,11 @@ use Rattle.records.specs.Layout.{conceptLayout, entries, viewSteps, maxAttribut
 use Rattle.records.specs.Schema.{Schema}
 use Rattle.records.specs.SchemaRecord.{signatureOf}
 use Rattle.records.specs.Concept.{directionOf, Concept, class, everything, constant}
-use Rattle.records.specs.Reading.{stepToken, conceptAt}
-use Rattle.records.specs.InRange.{TokenInRange}
+use Rattle.records.specs.Helpers.Reading.{stepToken, conceptAt}
+use Rattle.records.specs.Helpers.InRange.{TokenInRange}
 use Rattle.records.specs.ConceptRecord.{tokenAt}
-use Rattle.records.specs.Refusal.{AcceptedSchema, AcceptedConcept}
+use Rattle.records.specs.SchemaRefusal.{AcceptedSchema}
+use Rattle.records.specs.ConceptRefusal.{AcceptedConcept}
 use Rattle.records.proofs.AcceptedLaws.{passes-3, tokens-few, token-in-range, step-in-range}
 use Rattle.chase.specs.Ground.{Ground}
 use Rattle.chase.specs.Forest.{Forest, walk}

@@ -15,11 +15,11 @@ use Rattle.records.specs.Layout.{viewSteps, maxAttributes, maxObjects}
 use Rattle.records.specs.Schema.{Schema}
 use Rattle.records.specs.SchemaRecord.{schemaOf}
 use Rattle.records.specs.ConceptRecord.{tokenAt}
-use Rattle.records.specs.Reading.{stepToken, startOf, conceptAt, pathAt}
+use Rattle.records.specs.Helpers.Reading.{stepToken, startOf, conceptAt, pathAt}
 use Rattle.records.proofs.PileLaws.{start-le}
 use Rattle.records.proofs.ReadingLaws.{Reads, ReadsStep, concept-reads, step-reads, concept-next, path-next, concept-token, path-token}
 use Rattle.chase.specs.Ground.{Ground}
-use Rattle.records.specs.Steps.{conceptSteps, pathSteps}
+use Rattle.records.specs.Helpers.Steps.{conceptSteps, pathSteps}
 use Rattle.chase.specs.Forest.{Forest, size, walk, trek, makeFor, next}
 use Rattle.chase.proofs.SizeLaws.{trek-size}
 use Rattle.ground.specs.Objects.{forestIn, groundIn}

@@ -6,7 +6,7 @@ use mathlib.Core.Path.{_≡_}
 use lib.ListN.{length, getD}
 use Rattle.records.specs.Layout.{maxAttributes, maxObjects}
 use Rattle.records.specs.SchemaRecord.{schemaOf}
-use Rattle.records.specs.Refusal.{AcceptedSchema}
+use Rattle.records.specs.SchemaRefusal.{AcceptedSchema}
 use Rattle.chase.specs.Axioms.{collect, needsBy}
 use Rattle.chase.specs.Loops.{each}
 use Rattle.chase.specs.Forest.{Forest, size, make}

@@ -1,5 +1,5 @@
 -- What the walk of the view asks and promises: of the concept, or of the path, that ends at token e.
-use Prim.Native.Nat.{ℕ, _+_, _*_, _≤_, _<_}
+use Prim.Native.Nat.{ℕ, _+_, _≤_, _<_}
 use mathlib.Core.List.{List}
 use mathlib.Core.Path.{_≡_}
 use lib.ListN.{take}
@@ -7,9 +7,10 @@ use Rattle.records.specs.Concept.{Concept, Path}
 use Rattle.records.specs.Layout.{conceptLayout, entries, viewSteps, maxObjects}
 use Rattle.records.specs.SchemaRecord.{signatureOf, schemaOf}
 use Rattle.records.specs.ConceptRecord.{conceptOf}
-use Rattle.records.specs.Refusal.{AcceptedSchema, AcceptedConcept}
-use Rattle.records.specs.Steps.{conceptSteps, pathSteps}
-use Rattle.records.specs.Reading.{conceptAt, pathAt, HasConcept, HasPath}
+use Rattle.records.specs.SchemaRefusal.{AcceptedSchema}
+use Rattle.records.specs.ConceptRefusal.{AcceptedConcept}
+use Rattle.records.specs.Helpers.Steps.{conceptSteps, pathSteps}
+use Rattle.records.specs.Helpers.Reading.{conceptAt, pathAt, HasConcept, HasPath}
 use Rattle.chase.specs.Forest.{Forest, size, walk, trek, walks}
 use Rattle.chase.specs.Bounds.{maxForest}
 use Rattle.ground.specs.Objects.{forestIn, groundIn}

@@ -12,7 +12,7 @@ ghost use lib.ListN.{length, getD};
 ghost use Rattle.records.specs.Layout.{maxAttributes, maxObjects, objectPart};
 ghost use Rattle.records.specs.Schema.{Schema};
 ghost use Rattle.records.specs.SchemaRecord.{schemaOf};
-ghost use Rattle.records.specs.Refusal.{AcceptedSchema};
+ghost use Rattle.records.specs.SchemaRefusal.{AcceptedSchema};
 ghost use Rattle.chase.specs.Axioms.{collect, needsBy};
 ghost use Rattle.chase.specs.ClassSet.{full as fullSet};
 ghost use Rattle.chase.specs.Forest.{kid as kidIn, parent as parentIn, asks as asksIn, classesOf, lacks as lacksIn};

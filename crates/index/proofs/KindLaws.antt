@@ -14,7 +14,7 @@ use Rattle.records.specs.declared.schema.Signature.{Signature}
 use Rattle.records.specs.Finite.{any}
 use Rattle.records.specs.Layout.{stateLayout, entries, leftAt, rightAt}
 use Rattle.records.specs.StateRecord.{kindAt}
-use Rattle.records.specs.Refusal.{AcceptedState, ascends}
+use Rattle.records.specs.StateRefusal.{AcceptedState, ascends}
 use Rattle.records.proofs.General.BoolLaws.{or-true-cases, and-map, false-of, test-same}
 use Rattle.records.proofs.General.FiniteLaws.{none-any, any-of, any-found}
 use Rattle.records.proofs.AcceptedLaws.{passes-9, fact-ascends}

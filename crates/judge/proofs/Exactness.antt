@@ -24,7 +24,7 @@ use Rattle.records.specs.Semantics.{In}
 use Rattle.records.specs.Subsumption.{Counterexample}
 use Rattle.records.specs.Executable.{isIn, holds, firstBroken}
 use Rattle.records.specs.StateRecord.{objects, stateOf}
-use Rattle.records.specs.Refusal.{namesAt, misnames, refusal-10, AcceptedState}
+use Rattle.records.specs.StateRefusal.{namesAt, misnames, refusal-10, AcceptedState}
 use Rattle.records.proofs.General.BoolLaws.{or-false-right, false-of, not-of-false}
 use Rattle.records.proofs.General.FiniteLaws.{any-found, any-none, count-found, count-same, least-le, least-passes, least-first, least-is}
 use Rattle.records.proofs.ExecutableLaws.{isIn-iff, holds-iff, first-broken-none, first-broken-at, first-broken-before}

@@ -8,7 +8,9 @@ use mathlib.Core.Path.{_≡_}
 use Rattle.records.specs.declared.schema.Signature.{Signature}
 use Rattle.records.specs.Finite.{least}
 use Rattle.records.specs.Layout.{querySteps, viewSteps}
-use Rattle.records.specs.Refusal.{AcceptedSchema, AcceptedConcept, AcceptedState}
+use Rattle.records.specs.SchemaRefusal.{AcceptedSchema}
+use Rattle.records.specs.ConceptRefusal.{AcceptedConcept}
+use Rattle.records.specs.StateRefusal.{AcceptedState}
 use Rattle.index.specs.BitSet.{bitAt}
 use Rattle.records.specs.State.{State}
 use Rattle.records.specs.Schema.{Schema}

@@ -14,12 +14,12 @@ use Rattle.records.specs.Finite.{any}
 use Rattle.records.specs.Schema.{Holds}
 use Rattle.records.specs.Layout.{stateLayout, entries, rightAt, attributeKinds, factKinds}
 use Rattle.records.specs.StateRecord.{objects, kindAt, objectAt, says, stateOf}
-use Rattle.records.specs.Refusal.{AcceptedState}
+use Rattle.records.specs.StateRefusal.{AcceptedState}
 use Rattle.records.proofs.General.BoolLaws.{and-both, and-map, and-three-map, not-both, false-of-not}
 use Rattle.records.proofs.General.FiniteLaws.{any-none}
 use Rattle.index.specs.Index.{Indexes}
 use Rattle.index.proofs.IndexLaws.{index-says}
-use Rattle.records.specs.InRange.{AxiomInRange}
+use Rattle.records.specs.Helpers.InRange.{AxiomInRange}
 use Rattle.legality.specs.Breaks.{seenAt, isPair, objectBreaks, pairBreaks}
 use Rattle.records.proofs.StateScanLaws.{says-iff}
 use Rattle.legality.proofs.FactLaws.{PairFact, pair-iff, pair-of, few-objects, object-inside, value-inside, repeats-of, repeats-other}

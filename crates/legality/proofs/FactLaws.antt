@@ -11,7 +11,7 @@ use lib.Dec.{ltb}
 use Rattle.records.specs.declared.schema.Signature.{Signature}
 use Rattle.records.specs.Layout.{stateLayout, entries, leftAt, rightAt, maxObjects}
 use Rattle.records.specs.StateRecord.{objects, kindAt, objectAt, saysPair}
-use Rattle.records.specs.Refusal.{AcceptedState, faultyFact}
+use Rattle.records.specs.StateRefusal.{AcceptedState, faultyFact}
 use Rattle.records.proofs.General.BoolLaws.{and-right, and-both, and-three-iff}
 use Rattle.records.proofs.General.FiniteLaws.{any-iff}
 use Rattle.records.proofs.ExecutableLaws.{eqb-iff}

@@ -15,7 +15,7 @@ use Rattle.records.specs.Executable.{holds, firstBroken}
 use Rattle.records.specs.Layout.{schemaLayout, stateLayout, entries, maxFacts}
 use Rattle.records.specs.SchemaRecord.{schemaOf}
 use Rattle.records.specs.StateRecord.{objects as objectsOf, stateOf}
-use Rattle.records.specs.InRange.{AxiomInRange}
+use Rattle.records.specs.Helpers.InRange.{AxiomInRange}
 use Rattle.records.proofs.General.BoolLaws.{false-of, not-of-false}
 use Rattle.records.proofs.General.FiniteLaws.{any-zero, any-still, any-none, none-any, least-is}
 use Rattle.records.proofs.ExecutableLaws.{holds-iff}

@@ -4,7 +4,8 @@ use mathlib.Core.List.{List}
 use mathlib.Core.Path.{_≡_}
 use Rattle.records.specs.declared.schema.Signature.{Signature}
 use Rattle.records.specs.SchemaRecord.{signatureOf}
-use Rattle.records.specs.Refusal.{AcceptedSchema, AcceptedState}
+use Rattle.records.specs.SchemaRefusal.{AcceptedSchema}
+use Rattle.records.specs.StateRefusal.{AcceptedState}
 use Rattle.index.specs.Index.{Indexes}
 
 pub record Judged (s : Signature) (schema state seen : List ℕ) : Type 0 where

@@ -3,8 +3,8 @@ use records::schema::Axiom;
 use records::state::ATTRIBUTE_KINDS;
 use records::state::FACT_KINDS;
 ghost use mathlib.Core.Path.{_≡_};
-ghost use Rattle.records.specs.Word.{IsWord};
-ghost use Rattle.records.specs.InRange.{AxiomInRange};
+ghost use Rattle.records.specs.Helpers.Word.{IsWord};
+ghost use Rattle.records.specs.Helpers.InRange.{AxiomInRange};
 ghost use Rattle.legality.specs.Asked.{objectsAsked, kindAsked};
 
 // How many of the objects: none where only pairs can break the axiom.

@@ -11,7 +11,7 @@ use records::state::state_layout;
 ghost use mathlib.Core.Path.{_≡_};
 ghost use Prim.Native.Nat.{_<_, _^_};
 ghost use Rattle.records.specs.Layout.{factKinds, maxAttributes};
-ghost use Rattle.records.specs.InRange.{AxiomInRange};
+ghost use Rattle.records.specs.Helpers.InRange.{AxiomInRange};
 ghost use Rattle.legality.specs.Breaks.{seenAt, isPair, repeatsLeft, objectBreaks, pairBreaks};
 
 // Some fact is of this kind and object.

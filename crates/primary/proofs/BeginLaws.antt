@@ -8,7 +8,7 @@ use mathlib.Core.Path.{_≡_, refl, sym, ap, ap₂, _∙_}
 use lib.ListN.{length, set, take, replicate}
 use lib.Seq.{take-all, take-suc-set}
 use Rattle.chase.specs.Task.{Task, nodes}
-use Rattle.records.specs.Steps.{conceptSteps}
+use Rattle.records.specs.Helpers.Steps.{conceptSteps}
 use Rattle.chase.specs.Primary.{Prime, repOf, numbersFrom, begin, primary, clash}
 use Rattle.primary.specs.Formed.{prime}
 use Rattle.primary.specs.Clash.{clashesIn}

@@ -8,7 +8,8 @@ use mathlib.Core.Path.{_≡_, refl, sym, ap, subst, _∙_}
 use lib.ListN.{length, getD}
 use Rattle.records.specs.Layout.{querySteps}
 use Rattle.records.specs.SchemaRecord.{signatureOf, schemaOf}
-use Rattle.records.specs.Refusal.{AcceptedSchema, AcceptedConcept}
+use Rattle.records.specs.SchemaRefusal.{AcceptedSchema}
+use Rattle.records.specs.ConceptRefusal.{AcceptedConcept}
 use Rattle.records.proofs.AcceptedLaws.{passes-1, passes-2, passes-4, passes-5, passes-6, accepted-limit}
 use Rattle.chase.specs.Task.{Task, WellFormed, nodes, asked, taskOf}
 use Rattle.chase.specs.Primary.{Prime, repOf, pass, weight, begin, bound, settled, primary}

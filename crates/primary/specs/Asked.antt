@@ -4,7 +4,8 @@ use mathlib.Core.List.{List, [], map}
 use mathlib.Core.Path.{_≡_}
 use Rattle.records.specs.Layout.{querySteps}
 use Rattle.records.specs.SchemaRecord.{signatureOf}
-use Rattle.records.specs.Refusal.{AcceptedSchema, AcceptedConcept}
+use Rattle.records.specs.SchemaRefusal.{AcceptedSchema}
+use Rattle.records.specs.ConceptRefusal.{AcceptedConcept}
 use Rattle.chase.specs.Task.{Task, asked, taskOf}
 use Rattle.primary.specs.Words.{memberOf, equationOf, edgeOf}
 

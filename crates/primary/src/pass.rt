@@ -9,7 +9,7 @@ ghost use mathlib.Core.List.{map};
 ghost use Prim.Native.Nat.{_≤_};
 ghost use lib.ListN.{length};
 ghost use Rattle.records.specs.SchemaRecord.{schemaOf};
-ghost use Rattle.records.specs.Refusal.{AcceptedSchema};
+ghost use Rattle.records.specs.SchemaRefusal.{AcceptedSchema};
 ghost use Rattle.chase.specs.Primary.{weight as weightOf};
 ghost use Rattle.primary.specs.Formed.{prime, Formed, Becomes};
 ghost use Rattle.chase.specs.Bounds.{maxNodes};

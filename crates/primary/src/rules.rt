@@ -14,7 +14,7 @@ ghost use mathlib.Core.Path.{_≡_};
 ghost use mathlib.Core.List.{map};
 ghost use lib.ListN.{length};
 ghost use Rattle.records.specs.SchemaRecord.{schemaOf};
-ghost use Rattle.records.specs.Refusal.{AcceptedSchema};
+ghost use Rattle.records.specs.SchemaRefusal.{AcceptedSchema};
 ghost use Rattle.chase.specs.Loops.{each, upto};
 ghost use Rattle.chase.specs.Primary.{equate, assert, lift, rival as rivalIn, unify as unifyIn};
 ghost use Rattle.primary.specs.Formed.{prime, Formed, Becomes};

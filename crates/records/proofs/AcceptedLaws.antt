@@ -21,10 +21,13 @@ use Rattle.records.specs.Concept.{Direction, forward, backward}
 use Rattle.records.specs.ConceptRecord.{tokenAt, conceptOf}
 use Rattle.records.specs.StateRecord.{objects, stateOf}
 use Rattle.records.specs.State.{repeats}
-use Rattle.records.specs.Refusal.{misshapen, outside, oversized, declares, faultyAxiom, suits, refusal-1, refusal-2, schemaAnswer, AcceptedSchema, faultyToken, steps, refusal-3, refusal-4, refusal-5, refusal-6, conceptAnswer, AcceptedConcept, faultyFact, ascends, descends, namesAt, misnames, refusal-7, refusal-8, refusal-9, refusal-10, stateAnswer, AcceptedState}
-use Rattle.records.specs.Steps.{conceptSteps}
-use Rattle.records.specs.Reading.{startOf, HasConcept, stepToken, stepNumber}
-use Rattle.records.specs.InRange.{AxiomInRange, TokenInRange}
+use Rattle.records.specs.Shape.{misshapen, outside}
+use Rattle.records.specs.SchemaRefusal.{oversized, declares, faultyAxiom, refusal-1, refusal-2, schemaAnswer, AcceptedSchema}
+use Rattle.records.specs.ConceptRefusal.{suits, faultyToken, steps, refusal-3, refusal-4, refusal-5, refusal-6, conceptAnswer, AcceptedConcept}
+use Rattle.records.specs.StateRefusal.{faultyFact, ascends, descends, namesAt, misnames, refusal-7, refusal-8, refusal-9, refusal-10, stateAnswer, AcceptedState}
+use Rattle.records.specs.Helpers.Steps.{conceptSteps}
+use Rattle.records.specs.Helpers.Reading.{startOf, HasConcept, stepToken, stepNumber}
+use Rattle.records.specs.Helpers.InRange.{AxiomInRange, TokenInRange}
 use Rattle.records.proofs.General.BoolLaws.{or-false-left, or-false-right, and-map, and-three-map}
 use Rattle.records.proofs.General.FiniteLaws.{any-none}
 use Rattle.records.proofs.ReadingLaws.{number-concept, whole-concept}

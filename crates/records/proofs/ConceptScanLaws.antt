@@ -20,10 +20,10 @@ use Rattle.records.specs.Concept.{class, everything, constant, empty}
 use Rattle.records.specs.ConceptRecord.{Item, Pile, after, pileAfter, tokenAt}
 use Rattle.records.specs.declared.schema.Signature.{Signature}
 use Rattle.records.specs.Finite.{any, count}
-use Rattle.records.specs.Refusal.{isConcept, faultyToken, stepAt, steps, refusal-4, refusal-5, refusal-6}
+use Rattle.records.specs.ConceptRefusal.{isConcept, faultyToken, stepAt, steps, refusal-4, refusal-5, refusal-6}
 use Rattle.records.specs.Layout.{conceptLayout, entries, sizeAt}
 use Rattle.records.proofs.General.FiniteLaws.{any-zero, any-still, count-turn, count-le}
-use Rattle.records.specs.Scan.{putSort, joinSorts, reachSort, pushOk, pushSort, isConceptSort}
+use Rattle.records.specs.Helpers.Scan.{putSort, joinSorts, reachSort, pushOk, pushSort, isConceptSort}
 
 -- The pile's sorts.
 

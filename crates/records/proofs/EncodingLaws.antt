@@ -16,9 +16,10 @@ use Rattle.records.specs.Layout.{schemaLayout, conceptLayout, stateLayou
 use Rattle.records.specs.SchemaRecord.{signatureOf, axiomKind, axiomOf, schemaOf}
 use Rattle.records.specs.ConceptRecord.{tokenOf, tokenAt}
 use Rattle.records.specs.StateRecord.{objects, kindAt, objectAt}
-use Rattle.records.specs.Refusal.{misshapen, isStep, stepAt, steps}
+use Rattle.records.specs.Shape.{misshapen}
+use Rattle.records.specs.ConceptRefusal.{isStep, stepAt, steps}
 use Rattle.records.specs.Encoding.{recordOf, Words, leftOf, rightOf, schemaRecord, axiomWords, stepsIn, conceptRecord, fact, leftWord, rightWord, stateRecord}
-use Rattle.records.specs.InRange.{AxiomInRange}
+use Rattle.records.specs.Helpers.InRange.{AxiomInRange}
 use Rattle.records.proofs.General.FiniteLaws.{count-same}
 
 -- the size words of a layout, for n entries

@@ -19,7 +19,10 @@ use Rattle.records.specs.Layout.{schemaLayout, conceptLayout, stateLayou
 use Rattle.records.specs.SchemaRecord.{signatureOf, axiomKind, axiomOf, schemaOf}
 use Rattle.records.specs.ConceptRecord.{tokenOf, tokenAt, pileAfter, conceptOf}
 use Rattle.records.specs.StateRecord.{objects, kindAt, objectAt, says, saysPair, stateOf}
-use Rattle.records.specs.Refusal.{misshapen, refusal-1, faultyAxiom, refusal-2, schemaAnswer, schemaNumber, refusal-3, faultyToken, refusal-4, refusal-5, steps, refusal-6, conceptAnswer, conceptNumber, refusal-7, faultyFact, refusal-8, ascends, refusal-9, refusal-10, stateAnswer, stateNumber}
+use Rattle.records.specs.Shape.{misshapen}
+use Rattle.records.specs.SchemaRefusal.{refusal-1, faultyAxiom, refusal-2, schemaAnswer, schemaNumber}
+use Rattle.records.specs.ConceptRefusal.{refusal-3, faultyToken, refusal-4, refusal-5, steps, refusal-6, conceptAnswer, conceptNumber}
+use Rattle.records.specs.StateRefusal.{refusal-7, faultyFact, refusal-8, ascends, refusal-9, refusal-10, stateAnswer, stateNumber}
 use Rattle.records.specs.Encoding.{recordOf, schemaRecord, conceptRecord, stepsIn, fact, stateRecord}
 use Rattle.records.specs.Executable.{isIn, firstBroken}
 use Rattle.records.proofs.General.BoolLaws.{or-true-cases, false-of-not, and-map, and-three-map, same-iff}

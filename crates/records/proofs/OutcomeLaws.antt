@@ -22,9 +22,11 @@ use Rattle.records.specs.declared.concept.ConceptAnswer.the-variants as 
 use Rattle.records.specs.declared.state.StateAnswer.{StateAnswer}
 use Rattle.records.specs.declared.state.StateAnswer.the-variants as of-state
 use Rattle.records.specs.Layout.{querySteps, viewSteps}
-use Rattle.records.specs.Refusal.{schemaNumber, conceptNumber, stateNumber, refusal-1, refusal-2, refusal-11, schemaAnswer, conceptAnswer, stateAnswer, AcceptedSchema, AcceptedConcept, AcceptedState}
+use Rattle.records.specs.SchemaRefusal.{schemaNumber, refusal-1, refusal-2, schemaAnswer, AcceptedSchema}
+use Rattle.records.specs.ConceptRefusal.{conceptNumber, conceptAnswer, AcceptedConcept}
+use Rattle.records.specs.StateRefusal.{stateNumber, stateAnswer, AcceptedState}
+use Rattle.records.specs.Outcome.{refusal-11, schemaRefusal, queryRefusal, viewRefusal, stateRefusal, lentRefusal, firstRefusal, outcome}
 use Rattle.records.specs.SchemaRecord.{signatureOf}
-use Rattle.records.specs.Outcome.{schemaRefusal, queryRefusal, viewRefusal, stateRefusal, lentRefusal, firstRefusal, outcome}
 
 -- Numbers in checking order.
 

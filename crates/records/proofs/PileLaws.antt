@@ -12,7 +12,7 @@ use Rattle.records.specs.declared.concept.Token.{Token}
 use Rattle.records.specs.declared.concept.Token.the-variants.{Class, Everything, Constant, Both, Empty, Forward, Backward, Reached, Common}
 use Rattle.records.specs.Concept.{Direction, forward, backward, Concept, class, everything, constant, both, reached, common, Path, empty, step}
 use Rattle.records.specs.ConceptRecord.{Item, concept, path, Pile, takeConcept, takePath, tokenAt, push, after, pileAfter}
-use Rattle.records.specs.Reading.{takes, startOf, stepToken}
+use Rattle.records.specs.Helpers.Reading.{takes, startOf, stepToken}
 
 -- an item's own token, its last one
 abbrev pub lastToken : Item → Token

@@ -13,9 +13,9 @@ use Rattle.records.specs.declared.concept.Token.{Token}
 use Rattle.records.specs.declared.concept.Token.the-variants.{Class, Everything, Constant, Both, Empty, Forward, Backward, Reached, Common}
 use Rattle.records.specs.Concept.{Direction, forward, backward, Concept, class, everything, constant, both, reached, common, Path, empty, step}
 use Rattle.records.specs.ConceptRecord.{concept, path, Pile, tokenAt, pileAfter, topConcept}
-use Rattle.records.specs.Refusal.{isConcept}
-use Rattle.records.specs.Steps.{conceptSteps, pathSteps}
-use Rattle.records.specs.Reading.{topPath, startOf, conceptAt, pathAt, HasConcept, HasPath, stepToken, stepNumber}
+use Rattle.records.specs.ConceptRefusal.{isConcept}
+use Rattle.records.specs.Helpers.Steps.{conceptSteps, pathSteps}
+use Rattle.records.specs.Helpers.Reading.{topPath, startOf, conceptAt, pathAt, HasConcept, HasPath, stepToken, stepNumber}
 use Rattle.records.proofs.PileLaws.{lastToken, Ends, at-suc, ends-token, ends-none, ends-one, ends-two, pile-empty, start-pile}
 use Rattle.records.proofs.SpellingLaws.{Spells, ends-spells, path-spells, concept-number, path-number}
 

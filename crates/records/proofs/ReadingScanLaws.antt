@@ -11,10 +11,10 @@ use Rattle.records.specs.declared.concept.Token.{Token}
 use Rattle.records.specs.declared.concept.Token.the-variants.{Class, Everything, Constant, Both, Empty, Forward, Backward, Reached, Common}
 use Rattle.records.specs.ConceptRecord.{tokenAt}
 use Rattle.records.specs.Finite.{count}
-use Rattle.records.specs.Refusal.{stepAt}
+use Rattle.records.specs.ConceptRefusal.{stepAt}
 use Rattle.records.proofs.General.BoolLaws.{and-map, and-both, not-both}
 use Rattle.records.proofs.General.FiniteLaws.{count-turn, count-le}
-use Rattle.records.specs.Reading.{takes, startOf, stepNumber}
+use Rattle.records.specs.Helpers.Reading.{takes, startOf, stepNumber}
 
 pub takes-few : (t : Token) → takes t ≤ 2
 unfolding takes

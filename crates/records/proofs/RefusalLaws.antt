@@ -8,7 +8,9 @@ use Rattle.records.specs.declared.schema.SchemaAnswer.the-variants as sc
 use Rattle.records.specs.declared.concept.ConceptAnswer.the-variants as concept
 use Rattle.records.specs.declared.state.StateAnswer.the-variants as state
 use Rattle.records.specs.SchemaRecord.{signatureOf}
-use Rattle.records.specs.Refusal.{refusal-1, refusal-2, schemaAnswer, refusal-3, refusal-4, refusal-5, refusal-6, conceptAnswer, refusal-7, refusal-8, refusal-9, refusal-10, stateAnswer}
+use Rattle.records.specs.SchemaRefusal.{refusal-1, refusal-2, schemaAnswer}
+use Rattle.records.specs.ConceptRefusal.{refusal-3, refusal-4, refusal-5, refusal-6, conceptAnswer}
+use Rattle.records.specs.StateRefusal.{refusal-7, refusal-8, refusal-9, refusal-10, stateAnswer}
 
 module _ (w : List ℕ) where
   pub answer-1 : So (refusal-1 w) → schema.BadShape ≡ schemaAnswer w

@@ -9,9 +9,9 @@ use Rattle.records.specs.declared.concept.Token.{Token}
 use Rattle.records.specs.declared.concept.Token.the-variants.{Class, Everything, Constant, Both, Empty, Reached, Common}
 use Rattle.records.specs.Concept.{Direction, forward, backward, Concept, class, everything, constant, both, reached, common, Path, empty, step}
 use Rattle.records.specs.ConceptRecord.{Item, concept, path, tokenAt}
-use Rattle.records.specs.Refusal.{isStep, stepAt}
-use Rattle.records.specs.Steps.{conceptSteps, pathSteps}
-use Rattle.records.specs.Reading.{startOf, stepToken, stepNumber}
+use Rattle.records.specs.ConceptRefusal.{isStep, stepAt}
+use Rattle.records.specs.Helpers.Steps.{conceptSteps, pathSteps}
+use Rattle.records.specs.Helpers.Reading.{startOf, stepToken, stepNumber}
 use Rattle.records.proofs.General.FiniteLaws.{count-next, count-still}
 use Rattle.records.proofs.PileLaws.{lastToken, operands, Ends, at-suc, ends-token, ends-none, ends-one, ends-two}
 

@@ -17,8 +17,8 @@ use Rattle.records.specs.declared.schema.Signature.{Signature}
 use Rattle.records.specs.Finite.{any, all, count}
 use Rattle.records.specs.Layout.{stateLayout, entries, constantKinds, factKinds, attributeKinds, rightAt}
 use Rattle.records.specs.StateRecord.{kindAt, objectAt, objects, says, stateOf}
-use Rattle.records.specs.Refusal.{ascends, descends, faultyFact, declaresKind, namesAt, misnames, refusal-8, refusal-9, refusal-10}
-use Rattle.records.specs.Scan.{followsAt, slotOf, namedIn, misnamedAt, misnamed}
+use Rattle.records.specs.StateRefusal.{ascends, descends, faultyFact, declaresKind, namesAt, misnames, refusal-8, refusal-9, refusal-10}
+use Rattle.records.specs.Helpers.Scan.{followsAt, slotOf, namedIn, misnamedAt, misnamed}
 use Rattle.records.specs.State.{sameAs, repeats}
 use Rattle.records.proofs.General.BoolLaws.{or-false-left, or-false-right, or-left, or-true-cases, and-left, and-right, and-both, not-both, false-of, and-iff}
 use Rattle.records.proofs.General.FiniteLaws.{any-zero, any-still, any-of, any-none, none-any, any-same, all-more, count-more, count-one, count-found, none-count, least-is, any-iff}

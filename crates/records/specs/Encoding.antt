@@ -8,7 +8,7 @@ use Rattle.records.specs.declared.schema.Axiom.the-variants.{Subclass, T
 use Rattle.records.specs.Finite.{count}
 use Rattle.records.specs.Layout.{bytePart, objectPart, wordPart}
 use Rattle.records.specs.ConceptRecord.{tokenOf}
-use Rattle.records.specs.Refusal.{isStep}
+use Rattle.records.specs.ConceptRefusal.{isStep}
 
 -- The size words, then the left word of each entry, then the right words.
 unfoldable pub recordOf : {E : Type 0} → (E → ℕ) → (E → ℕ) → List ℕ → List E → List ℕ

@@ -7,21 +7,19 @@ pub mod Concept
 pub mod Semantics
 pub mod Subsumption
 -- Records.
-pub mod Word
 pub mod Layout
 pub mod SchemaRecord
 pub mod ConceptRecord
 pub mod StateRecord
 pub mod Encoding
 -- Turned back, in checking order.
-pub mod Refusal
+pub mod Shape
+pub mod SchemaRefusal
+pub mod ConceptRefusal
+pub mod StateRefusal
 pub mod Outcome
--- The semantics as tests that compute, for the worked examples.
+-- The semantics as tests that compute: the judge's answers are functions of the words by these (its specs/Exact.antt says what
+-- they mean).
 pub mod Executable
--- What contracts of helper functions cite, and no definition above: the check's scan, a concept's tokens read from the right,
--- and what names are in range.
-pub mod Scan
-pub mod Steps
-pub mod Reading
-pub mod InRange
-pub mod Half
+-- All else.
+pub mod Helpers

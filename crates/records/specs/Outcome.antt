@@ -2,11 +2,18 @@
 -- refused by the first refusal that applies, and otherwise answered. Numbers are the paper's, 0 for what is accepted.
 use Prim.Native.Nat.{ℕ}
 use mathlib.Core.List.{List, [], _∷_}
-use mathlib.Core.Bool.{cond}
-use lib.Dec.{eqb}
+use mathlib.Core.Bool.{Bool, cond}
+use lib.Dec.{eqb, ltb}
+use lib.ListN.{length}
 use Rattle.records.specs.Layout.{querySteps, viewSteps}
 use Rattle.records.specs.SchemaRecord.{signatureOf}
-use Rattle.records.specs.Refusal.{schemaAnswer, schemaNumber, conceptAnswer, conceptNumber, stateAnswer, stateNumber, refusal-11}
+use Rattle.records.specs.SchemaRefusal.{schemaAnswer, schemaNumber}
+use Rattle.records.specs.ConceptRefusal.{conceptAnswer, conceptNumber}
+use Rattle.records.specs.StateRefusal.{stateAnswer, stateNumber}
+
+-- 11. The lent words (words of the caller's that an answer is written to) are fewer than it needs.
+unfoldable pub refusal-11 : ℕ → List ℕ → Bool
+refusal-11 needed lent = ltb (length lent) needed
 
 abbrev pub schemaRefusal : List ℕ → ℕ
 schemaRefusal schema = schemaNumber (schemaAnswer schema)

@@ -8,11 +8,11 @@ use crate::layout::word;
 use crate::schema::Signature;
 ghost use mathlib.Core.Path.{_≡_};
 ghost use Prim.Native.Nat.{_<_, _^_};
-ghost use Rattle.records.specs.Word.{IsWord, IsLayout};
+ghost use Rattle.records.specs.Helpers.Word.{IsWord, IsLayout};
 ghost use Rattle.records.specs.Layout.{entries as entriesOf, conceptLayout, querySteps, viewSteps};
 ghost use Rattle.records.specs.ConceptRecord.{tokenOf, tokenAt};
-ghost use Rattle.records.specs.Refusal.{suits as suitsIn, refusal-3, faultyToken, isStep, conceptAnswer, conceptNumber};
-ghost use Rattle.records.specs.Scan.{putSort, joinSorts, reachSort, pushSort, isConceptSort};
+ghost use Rattle.records.specs.ConceptRefusal.{suits as suitsIn, refusal-3, faultyToken, isStep, conceptAnswer, conceptNumber};
+ghost use Rattle.records.specs.Helpers.Scan.{putSort, joinSorts, reachSort, pushSort, isConceptSort};
 
 pub const MAX_TOKENS: usize = 64;
 // Tokens, steps.

@@ -2,9 +2,9 @@
 ghost use mathlib.Core.Path.{_≡_};
 ghost use Prim.Native.Nat.{_+_, _<_, _^_};
 ghost use lib.ListN.{getD};
-ghost use Rattle.records.specs.Word.{IsWord};
+ghost use Rattle.records.specs.Helpers.Word.{IsWord};
 ghost use Rattle.records.specs.Layout.{entries as entriesOf, leftAt, rightAt};
-ghost use Rattle.records.specs.Refusal.{misshapen as misshapenIn};
+ghost use Rattle.records.specs.Shape.{misshapen as misshapenIn};
 
 // How many size words come first, and which of them, from 0, counts the entries.
 pub struct Layout {

@@ -4,7 +4,7 @@ use crate::concept::is_step;
 use crate::concept::token_at;
 ghost use mathlib.Core.Path.{_≡_};
 ghost use Prim.Native.Nat.{_<_, _^_};
-ghost use Rattle.records.specs.Reading.{takes as takesOf, startOf, stepNumber};
+ghost use Rattle.records.specs.Helpers.Reading.{takes as takesOf, startOf, stepNumber};
 
 // How many items a token takes from the pile.
 fn takes(token: Token) -> usize

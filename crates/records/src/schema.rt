@@ -7,10 +7,10 @@ use crate::layout::right;
 use crate::layout::word;
 ghost use mathlib.Core.Path.{_≡_};
 ghost use Prim.Native.Nat.{_<_, _^_};
-ghost use Rattle.records.specs.Word.{IsWord, IsLayout};
+ghost use Rattle.records.specs.Helpers.Word.{IsWord, IsLayout};
 ghost use Rattle.records.specs.Layout.{entries as entriesOf, schemaLayout};
 ghost use Rattle.records.specs.SchemaRecord.{signatureOf, axiomOf, schemaOf};
-ghost use Rattle.records.specs.Refusal.{oversized as oversizedIn, declares as declaresIn, faultyAxiom, refusal-1, schemaAnswer, schemaNumber};
+ghost use Rattle.records.specs.SchemaRefusal.{oversized as oversizedIn, declares as declaresIn, faultyAxiom, refusal-1, schemaAnswer, schemaNumber};
 
 pub const MAX_CLASSES: usize = 24;
 

@@ -9,11 +9,11 @@ use crate::schema::Signature;
 ghost use mathlib.Core.Path.{_≡_};
 ghost use Prim.Native.Nat.{_<_, _^_};
 ghost use lib.ListN.{length};
-ghost use Rattle.records.specs.Word.{IsWord, IsLayout};
+ghost use Rattle.records.specs.Helpers.Word.{IsWord, IsLayout};
 ghost use Rattle.records.specs.Layout.{entries as entriesOf, stateLayout};
 ghost use Rattle.records.specs.StateRecord.{objects as objectsOf, kindAt, objectAt};
-ghost use Rattle.records.specs.Refusal.{refusal-7, declaresKind, suitsKind, faultyFact, ascends as ascendsAt, stateAnswer, stateNumber};
-ghost use Rattle.records.specs.Scan.{followsAt, slotOf, namedIn, misnamed as misnamedIn};
+ghost use Rattle.records.specs.StateRefusal.{refusal-7, declaresKind, suitsKind, faultyFact, ascends as ascendsAt, stateAnswer, stateNumber};
+ghost use Rattle.records.specs.Helpers.Scan.{followsAt, slotOf, namedIn, misnamed as misnamedIn};
 ghost use Rattle.records.specs.State.{repeats as repeatsIn};
 
 pub const MAX_OBJECTS: usize = 480;

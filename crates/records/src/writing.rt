@@ -9,7 +9,7 @@ ghost use Prim.Native.Nat.{_*_, _<_, _≤_, _^_};
 ghost use lib.ListN.{length, drop};
 ghost use Rattle.records.specs.Layout.{stateLayout, lengthFor};
 ghost use Rattle.records.specs.Encoding.{leftWord, rightWord, stateRecord};
-ghost use Rattle.records.specs.Half.{wordOf};
+ghost use Rattle.records.specs.Helpers.Half.{wordOf};
 
 // The two words of a fact.
 enum Half {

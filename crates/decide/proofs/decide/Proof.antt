@@ -5,7 +5,8 @@ use mathlib.Core.List.{List, [], _∷_}
 use mathlib.Core.Path.{_≡_, refl, sym, _∙_}
 use Rattle.records.specs.Layout.{querySteps, viewSteps, maxStateWords, lengthFor, stateLayout}
 use Rattle.records.specs.SchemaRecord.{signatureOf}
-use Rattle.records.specs.Refusal.{AcceptedSchema, AcceptedConcept}
+use Rattle.records.specs.SchemaRefusal.{AcceptedSchema}
+use Rattle.records.specs.ConceptRefusal.{AcceptedConcept}
 use Rattle.records.specs.Outcome.{schemaRefusal, queryRefusal, viewRefusal}
 use Rattle.records.proofs.OutcomeLaws.{schema-turned, concept-turned, lent-turned, schema-signature, schema-passed, query-passed, view-passed, lent-passed}
 use Rattle.decide.proofs.DecisionLaws.{decided-by, refused-by}

@@ -1,7 +1,7 @@
 -- By the last token, a step or the empty path (EndLaws).
 use native.Mathlib.Omega.{arith}
 use mathlib.Core.Path.{sym, ap, _∙_}
-use Rattle.records.specs.Refusal.{isStep}
+use Rattle.records.specs.ConceptRefusal.{isStep}
 use Rattle.records.proofs.ReadingLaws.{path-some}
 use Rattle.asked.proofs.EndLaws.{end-step, end-empty}
 use Rattle.asked.proofs.items.end_of.Statement.{statement}

@@ -6,7 +6,7 @@ use native.Mathlib.Nat.{le-antisymm}
 use Rattle.records.specs.SchemaRecord.{schemaOf}
 use Rattle.chase.specs.Loops.{upto}
 use Rattle.chase.specs.Axioms.{raiseBy, raise}
-use Rattle.records.specs.InRange.{AxiomInRange}
+use Rattle.records.specs.Helpers.InRange.{AxiomInRange}
 use Rattle.classes.proofs.TurnLaws.{upto-none, upto-more, upto-all}
 use Rattle.records.proofs.AcceptedLaws.{axiom-in-range}
 use native.Mathlib.Omega.{arith}

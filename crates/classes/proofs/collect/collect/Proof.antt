@@ -5,7 +5,7 @@ use mathlib.Core.Path.{_≡_, sym, subst, _∙_}
 use Rattle.records.specs.SchemaRecord.{schemaOf}
 use Rattle.chase.specs.Loops.{upto}
 use Rattle.chase.specs.Axioms.{collect}
-use Rattle.records.specs.InRange.{AxiomInRange}
+use Rattle.records.specs.Helpers.InRange.{AxiomInRange}
 use Rattle.classes.specs.Asked.{addsBy}
 use Rattle.classes.proofs.TurnLaws.{upto-none, upto-more, upto-all}
 use native.Mathlib.Nat.{le-antisymm}

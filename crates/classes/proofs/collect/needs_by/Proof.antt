@@ -1,6 +1,6 @@
 -- A case for each kind of axiom.
 use mathlib.Core.Path.{subst}
-use Rattle.records.specs.InRange.{AxiomInRange}
+use Rattle.records.specs.Helpers.InRange.{AxiomInRange}
 use borrow.Author.Needs.{needs}
 use Rattle.classes.proofs.collect.needs_by.Statement.{statement}
 use Rattle.classes.proofs.collect.needs_by.Tie as tie

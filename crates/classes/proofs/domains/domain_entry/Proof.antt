@@ -1,6 +1,6 @@
 -- A case for each kind of axiom.
 use mathlib.Core.Path.{subst}
-use Rattle.records.specs.InRange.{AxiomInRange}
+use Rattle.records.specs.Helpers.InRange.{AxiomInRange}
 use native.Mathlib.Omega.{arith}
 use borrow.Author.Needs.{needs}
 use Rattle.classes.proofs.domains.domain_entry.Statement.{statement}

@@ -4,7 +4,7 @@ use mathlib.Core.Path.{refl, sym, ap, subst, _∙_}
 use native.Mathlib.Nat.{le-antisymm}
 use native.Mathlib.Omega.{arith}
 use Rattle.records.specs.Layout.{maxAttributes}
-use Rattle.records.specs.InRange.{AxiomInRange}
+use Rattle.records.specs.Helpers.InRange.{AxiomInRange}
 use Rattle.classes.specs.Domains.{entryOf}
 use Rattle.classes.proofs.DomainLaws.{Filled, filled-none, filled-more, filled-all}
 use Rattle.records.proofs.AcceptedLaws.{axiom-in-range}

@@ -5,7 +5,9 @@ use mathlib.Core.List.{List, [], _∷_}
 use mathlib.Core.Path.{_≡_, sym, _∙_}
 use Rattle.records.specs.Layout.{querySteps, viewSteps}
 use Rattle.records.specs.SchemaRecord.{signatureOf}
-use Rattle.records.specs.Refusal.{AcceptedSchema, AcceptedConcept, AcceptedState}
+use Rattle.records.specs.SchemaRefusal.{AcceptedSchema}
+use Rattle.records.specs.ConceptRefusal.{AcceptedConcept}
+use Rattle.records.specs.StateRefusal.{AcceptedState}
 use Rattle.records.specs.Outcome.{schemaRefusal, queryRefusal, viewRefusal}
 use Rattle.records.proofs.OutcomeLaws.{refused-at, answered-at, schema-turned, concept-turned, state-turned, schema-signature, schema-passed, query-passed, view-passed, state-passed}
 use Rattle.judge.specs.declared.counterexample.CounterexampleAnswer.the-variants.{Refused}

@@ -5,9 +5,10 @@ use mathlib.Core.List.{List, [], _∷_}
 use mathlib.Core.Path.{_≡_, sym, _∙_}
 use Rattle.records.specs.SchemaRecord.{schemaOf, signatureOf}
 use Rattle.records.specs.StateRecord.{stateOf}
-use Rattle.records.specs.Refusal.{AcceptedSchema, AcceptedState}
+use Rattle.records.specs.SchemaRefusal.{AcceptedSchema}
+use Rattle.records.specs.StateRefusal.{AcceptedState}
 use Rattle.records.specs.Outcome.{schemaRefusal}
-use Rattle.records.proofs.OutcomeLaws.{Passed, refused-at, answered-at, schema-turned, state-turned, schema-signature, schema-passed, state-passed}
+use Rattle.records.proofs.OutcomeLaws.{refused-at, answered-at, schema-turned, state-turned, schema-signature, schema-passed, state-passed}
 use Rattle.judge.specs.declared.legal.LegalAnswer.the-variants.{Refused}
 use Rattle.judge.specs.LegalState.{legalRefusals, legalAnswer, judgement}
 use Rattle.judge.proofs.LegalLaws.{judged-broken, judged-legal}

@@ -9,7 +9,9 @@ use Rattle.records.specs.Layout.{querySteps}
 use Rattle.records.specs.SchemaRecord.{signatureOf}
 use Rattle.records.specs.ConceptRecord.{conceptOf}
 use Rattle.records.specs.StateRecord.{objects, stateOf}
-use Rattle.records.specs.Refusal.{AcceptedSchema, AcceptedConcept, AcceptedState}
+use Rattle.records.specs.SchemaRefusal.{AcceptedSchema}
+use Rattle.records.specs.ConceptRefusal.{AcceptedConcept}
+use Rattle.records.specs.StateRefusal.{AcceptedState}
 use Rattle.records.specs.Outcome.{schemaRefusal, queryRefusal, stateRefusal}
 use Rattle.records.proofs.AcceptedLaws.{passes-3, passes-4, passes-5, passes-7, objects-few}
 use Rattle.records.proofs.OutcomeLaws.{refused-at, answered-at, schema-turned, concept-turned, state-turned, lent-turned, schema-signature, schema-passed, query-passed, state-passed, lent-passed}

@@ -3,7 +3,7 @@ use native.Mathlib.Omega.{arith}
 use mathlib.Core.Path.{subst}
 use Rattle.records.specs.StateRecord.{objectAt}
 use Rattle.records.specs.declared.schema.Axiom.the-variants.{Typing, Single, Relates}
-use Rattle.records.specs.InRange.{AxiomInRange}
+use Rattle.records.specs.Helpers.InRange.{AxiomInRange}
 use borrow.Author.Needs.{needs}
 use Rattle.legality.proofs.breaks.pair_breaks.Statement.{statement}
 use Rattle.legality.proofs.breaks.pair_breaks.Tie as tie

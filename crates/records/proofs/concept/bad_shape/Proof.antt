@@ -1,5 +1,5 @@
 -- The tests of the definition.
-use Rattle.records.specs.Refusal.{refusal-3}
+use Rattle.records.specs.ConceptRefusal.{refusal-3}
 use borrow.Author.Needs.{needs}
 use Rattle.records.proofs.concept.bad_shape.Statement.{statement}
 use Rattle.records.proofs.concept.bad_shape.Tie as tie

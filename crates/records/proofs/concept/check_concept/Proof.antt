@@ -5,7 +5,7 @@ use Rattle.records.proofs.RefusalLaws.{answer-3, answer-4, answer-5, an
 use Rattle.records.proofs.AcceptedLaws.{tokens-few}
 use Rattle.records.proofs.ConceptScanLaws.{Scanned, byte-small, scanned-4, scanned-5, scanned-6, scanned-few, scanned-more, scanned-none, scanned-room}
 use Rattle.records.specs.Layout.{conceptLayout, entries}
-use Rattle.records.specs.Refusal.{refusal-4, steps}
+use Rattle.records.specs.ConceptRefusal.{refusal-4, steps}
 use borrow.Author.Needs.{needs}
 use mathlib.Core.Path.{_∙_, subst, sym}
 use native.Mathlib.Omega.{arith}

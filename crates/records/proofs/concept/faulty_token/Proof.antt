@@ -1,6 +1,6 @@
 -- The tests of the definition, on the words at the place.
 use Rattle.records.specs.ConceptRecord.{tokenAt}
-use Rattle.records.specs.Refusal.{faultyToken}
+use Rattle.records.specs.ConceptRefusal.{faultyToken}
 use borrow.Author.Needs.{needs}
 use Rattle.records.proofs.concept.faulty_token.Statement.{statement}
 use Rattle.records.proofs.concept.faulty_token.Tie as tie

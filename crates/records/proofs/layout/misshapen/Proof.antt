@@ -1,6 +1,6 @@
 -- The two tests of the definition.
 use Rattle.records.specs.Layout.{lengthFor}
-use Rattle.records.specs.Refusal.{misshapen}
+use Rattle.records.specs.Shape.{misshapen}
 use borrow.Author.Needs.{needs}
 use Rattle.records.proofs.layout.misshapen.Statement.{statement}
 use Rattle.records.proofs.layout.misshapen.Tie as tie

@@ -2,7 +2,7 @@
 use Prim.Native.Nat.{suc, _+_, _≤_}
 use native.Mathlib.Omega.{arith}
 use mathlib.Core.Path.{_≡_, refl, sym, ap, _∙_}
-use Rattle.records.specs.Reading.{takes, startOf}
+use Rattle.records.specs.Helpers.Reading.{takes, startOf}
 use Rattle.records.proofs.ReadingScanLaws.{takes-few, goes-on, start-more, start-done}
 use Rattle.records.proofs.reading.start_of.Statement.{statement}
 use Rattle.records.proofs.reading.start_of.Tie as tie

@@ -1,5 +1,5 @@
 -- A case for each sort of token.
-use Rattle.records.specs.Reading.{takes}
+use Rattle.records.specs.Helpers.Reading.{takes}
 use borrow.Author.Needs.{needs}
 use Rattle.records.proofs.reading.takes.Statement.{statement}
 use Rattle.records.proofs.reading.takes.Tie as tie

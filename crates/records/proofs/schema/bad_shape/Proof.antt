@@ -1,5 +1,5 @@
 -- The tests of the definition.
-use Rattle.records.specs.Refusal.{refusal-1}
+use Rattle.records.specs.SchemaRefusal.{refusal-1}
 use borrow.Author.Needs.{needs}
 use Rattle.records.proofs.schema.bad_shape.Statement.{statement}
 use Rattle.records.proofs.schema.bad_shape.Tie as tie

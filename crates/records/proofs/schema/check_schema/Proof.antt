@@ -3,7 +3,7 @@ use Prim.Native.Nat.{_-_, _≤_}
 use Rattle.records.proofs.General.FiniteLaws.{any-of, any-still, any-zero}
 use Rattle.records.proofs.RefusalLaws.{answer-1, answer-2, schema-accepted}
 use Rattle.records.specs.Finite.{any}
-use Rattle.records.specs.Refusal.{faultyAxiom, refusal-2}
+use Rattle.records.specs.SchemaRefusal.{faultyAxiom, refusal-2}
 use borrow.Author.Needs.{needs}
 use denote.Ref.{now}
 use mathlib.Core.Bool.{false}

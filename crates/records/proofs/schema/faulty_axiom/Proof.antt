@@ -1,5 +1,5 @@
 -- The tests of the definition, on the words at the place.
-use Rattle.records.specs.Refusal.{faultyAxiom}
+use Rattle.records.specs.SchemaRefusal.{faultyAxiom}
 use Rattle.records.specs.SchemaRecord.{axiomKind}
 use borrow.Author.Needs.{needs}
 use Rattle.records.proofs.schema.faulty_axiom.Statement.{statement}

@@ -1,5 +1,5 @@
 -- The tests of the definition, on the words of two facts.
-use Rattle.records.specs.Refusal.{ascends}
+use Rattle.records.specs.StateRefusal.{ascends}
 use borrow.Author.Needs.{needs}
 use native.Mathlib.Numerals.{add-one}
 use Rattle.records.proofs.state.ascends.Statement.{statement}

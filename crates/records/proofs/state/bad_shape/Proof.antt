@@ -1,5 +1,5 @@
 -- The tests of the definition.
-use Rattle.records.specs.Refusal.{refusal-7}
+use Rattle.records.specs.StateRefusal.{refusal-7}
 use borrow.Author.Needs.{needs}
 use Rattle.records.proofs.state.bad_shape.Statement.{statement}
 use Rattle.records.proofs.state.bad_shape.Tie as tie

@@ -4,7 +4,7 @@ use Rattle.records.proofs.General.FiniteLaws.{any-of}
 use Rattle.records.proofs.RefusalLaws.{answer-10, answer-7, answer-8, answer-9, state-accepted}
 use Rattle.records.proofs.StateScanLaws.{Kept, kept-10, kept-8, kept-9, kept-more, kept-none}
 use Rattle.records.specs.Layout.{entries, stateLayout}
-use Rattle.records.specs.Refusal.{refusal-8}
+use Rattle.records.specs.StateRefusal.{refusal-8}
 use borrow.Author.Needs.{needs}
 use mathlib.Core.Path.{_∙_, subst, sym}
 use native.Mathlib.Omega.{arith}

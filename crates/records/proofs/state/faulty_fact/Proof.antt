@@ -1,5 +1,5 @@
 -- The tests of the definition, on the words at the place.
-use Rattle.records.specs.Refusal.{faultyFact}
+use Rattle.records.specs.StateRefusal.{faultyFact}
 use borrow.Author.Needs.{needs}
 use Rattle.records.proofs.state.faulty_fact.Statement.{statement}
 use Rattle.records.proofs.state.faulty_fact.Tie as tie

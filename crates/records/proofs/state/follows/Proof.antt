@@ -1,6 +1,6 @@
 -- The first fact, or a comparison with the one before.
 use Rattle.records.proofs.StateScanLaws.{follows-later}
-use Rattle.records.specs.Scan.{followsAt}
+use Rattle.records.specs.Helpers.Scan.{followsAt}
 use borrow.Author.Needs.{needs}
 use mathlib.Core.Path.{_∙_, sym}
 use Rattle.records.proofs.state.follows.Statement.{statement}

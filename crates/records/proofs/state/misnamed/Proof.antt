@@ -3,7 +3,7 @@ use Prim.Native.Nat.{_-_, _≤_}
 use Rattle.records.proofs.General.BoolLaws.{or-right}
 use Rattle.records.proofs.General.FiniteLaws.{any-of, any-still, any-zero}
 use Rattle.records.specs.Finite.{any}
-use Rattle.records.specs.Scan.{misnamed, misnamedAt}
+use Rattle.records.specs.Helpers.Scan.{misnamed, misnamedAt}
 use borrow.Author.Needs.{needs}
 use borrow.Author.Tests.{le-ltb, lt-ltb}
 use lib.Dec.{ltb}

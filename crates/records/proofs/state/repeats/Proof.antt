@@ -2,7 +2,7 @@
 use Prim.Native.Nat.{_-_, _≤_}
 use Rattle.records.proofs.General.FiniteLaws.{any-of, any-still, any-zero}
 use Rattle.records.specs.Finite.{any}
-use Rattle.records.specs.Scan.{namedIn}
+use Rattle.records.specs.Helpers.Scan.{namedIn}
 use Rattle.records.specs.State.{sameAs, repeats}
 use borrow.Author.Needs.{needs}
 use borrow.Author.Tests.{eq-eqb, ne-eqb}

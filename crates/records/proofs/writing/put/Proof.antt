@@ -4,7 +4,7 @@ use borrow.Author.Needs.{needs}
 use native.Mathlib.Omega.{arith}
 use mathlib.Core.Path.{_≡_, refl}
 use lib.ListN.{length, length-set}
-use Rattle.records.specs.Half.{wordOf}
+use Rattle.records.specs.Helpers.Half.{wordOf}
 use Rattle.records.proofs.PutLaws.{puts, puts-more, puts-all}
 use Rattle.records.proofs.writing.put.Statement.{statement}
 use Rattle.records.proofs.writing.put.Tie as tie

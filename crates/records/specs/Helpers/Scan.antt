@@ -1,5 +1,5 @@
 -- What the checks keep while they scan a record, as plain functions: the pile's sorts, and the constants' objects.
--- Contracts of helper functions cite them. ConceptScanLaws and StateScanLaws of proofs/ tie them to Refusal.antt.
+-- Contracts of helper functions cite them. ConceptScanLaws and StateScanLaws of proofs/ tie them to the refusals.
 use Prim.Native.Nat.{ℕ, zero, suc, _+_, _-_, _*_, _/_, _%_}
 use mathlib.Core.List.{List}
 use mathlib.Core.Bool.{Bool, true, false, cond, not, _&&_, _||_}
@@ -11,7 +11,7 @@ use Rattle.records.specs.declared.concept.Sorts.{Sorts}
 use Rattle.records.specs.Finite.{any}
 use Rattle.records.specs.State.{repeats}
 use Rattle.records.specs.Layout.{constantKinds, factKinds, maxConstants}
-use Rattle.records.specs.Refusal.{ascends}
+use Rattle.records.specs.StateRefusal.{ascends}
 
 abbrev pub putSort : Sorts → ℕ → Sorts
 putSort σ b = record { ok = true; bits = 2 * σ .bits + b; height = σ .height + 1 }

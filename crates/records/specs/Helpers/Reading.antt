@@ -8,7 +8,7 @@ use Rattle.records.specs.declared.concept.Token.the-variants.{Class, Eve
 use Rattle.records.specs.Finite.{count}
 use Rattle.records.specs.Concept.{Direction, forward, backward, Concept, Path, empty}
 use Rattle.records.specs.ConceptRecord.{Item, concept, path, Pile, tokenAt, pileAfter, topConcept}
-use Rattle.records.specs.Refusal.{stepAt}
+use Rattle.records.specs.ConceptRefusal.{stepAt}
 
 -- the path on top of the pile (any, where there is none)
 abbrev pub topPath : Pile → Path
