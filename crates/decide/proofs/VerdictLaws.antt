@@ -26,7 +26,8 @@ use Rattle.judge.specs.Counterexample.{lowest, finding, counterexampleRefusals,
 use Rattle.records.specs.Executable.{firstBroken}
 use Rattle.records.specs.Encoding.{stateRecord}
 use lib.Dec.{eqb, ltb}
-use Rattle.judge.proofs.Exactness.{accepted-names, found-exact, none-exact}
+use Rattle.records.proofs.AcceptedNames.{accepted-names}
+use Rattle.judge.proofs.Exactness.{found-exact, none-exact}
 use Rattle.chase.specs.Task.{taskOf}
 use Rattle.chase.specs.Primary.{clash}
 use Rattle.chase.specs.Written.{written}

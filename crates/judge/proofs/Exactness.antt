@@ -1,20 +1,16 @@
 -- What the entries' answers mean (specs/Exact.antt), for any words: select-exact, legal-exact and counterexample-exact. First of
 -- accepted records: legal means Legal, an object that is answered is the lowest Counterexample, and a mark tells Selects.
-use Prim.Native.Nat.{ℕ, zero, suc, _+_, _-_, _≤_, _<_}
-use mathlib.Core.List.{List, [], _∷_, _++_}
+use Prim.Native.Nat.{ℕ, _-_, _<_}
+use mathlib.Core.List.{List, []}
 use mathlib.Core.Bool.{Bool, true, false, So, cond, not, _&&_, false≢true}
 use mathlib.Core.Logic.{_↔_, _⊎_, inl, inr, ⊎-elim}
 use mathlib.Core.Path.{_≡_, refl, sym, ap, subst, _∙_}
 use native.Mathlib.Omega.{arith}
 use native.Mathlib.Decide.{decLt}
 use native.Mathlib.Nat.{eq-or-lt-of-le}
-use lib.ListN.{length, drop, getD, List·getD-append, length-append, length-drop}
-use lib.Seq.{getD-append-add, getD-drop}
 use lib.Dec.{eqb, ltb}
 use borrow.Author.Tests.{eq-eqb, eqb-true, ne-eqb, lt-ltb, ltb-true}
-use Rattle.records.specs.Finite.{any, count}
-use Rattle.records.specs.Layout.{stateLayout, entries}
-use Rattle.records.specs.declared.schema.Signature.{Signature}
+use Rattle.records.specs.Finite.{any}
 use Rattle.records.specs.State.{State, Names}
 use Rattle.records.specs.Schema.{Schema, Legal}
 use Rattle.records.specs.SchemaRecord.{signatureOf, schemaOf}
@@ -24,42 +20,21 @@ use Rattle.records.specs.Semantics.{In}
 use Rattle.records.specs.Subsumption.{Counterexample}
 use Rattle.records.specs.Executable.{isIn, holds, firstBroken}
 use Rattle.records.specs.StateRecord.{objects, stateOf}
-use Rattle.records.specs.StateRefusal.{namesAt, misnames, refusal-10, AcceptedState}
-use Rattle.records.proofs.General.BoolLaws.{or-false-right, false-of, not-of-false}
-use Rattle.records.proofs.General.FiniteLaws.{any-found, any-none, count-found, count-same, least-le, least-passes, least-first, least-is}
+use Rattle.records.proofs.General.BoolLaws.{false-of, not-of-false}
+use Rattle.records.proofs.General.FiniteLaws.{least-le, least-passes, least-first, least-is}
 use Rattle.records.proofs.ExecutableLaws.{isIn-iff, holds-iff, first-broken-none, first-broken-at, first-broken-before}
 use Rattle.records.proofs.OutcomeLaws.{first-passed, outcome-refused, outcome-answered, passed-state, passed-lent}
-use Rattle.records.proofs.AcceptedLaws.{passes-8, passes-10, fact-faultless, constant-once}
-use Rattle.records.proofs.StateScanLaws.{name-is, fact-object}
-use Rattle.judge.specs.Select.{marks, Result, selection, refusedWith, selectRefusals, selectOutcome}
+use Rattle.judge.specs.Select.{Result, selection, refusedWith, selectRefusals, selectOutcome}
 use Rattle.judge.specs.Counterexample.{separates, lowest, finding, counterexampleRefusals, counterexampleAnswer}
 use Rattle.judge.specs.LegalState.{judgement, legalRefusals, legalAnswer}
 use Rattle.judge.specs.Exact.{Selected, FirstBroken, Judged, Lowest, Found, SelectExact, LegalExact, CounterexampleExact}
-use Rattle.judge.proofs.MarkLaws.{marks-length}
 use Rattle.judge.specs.declared.select.SelectAnswer.the-variants as select
 use Rattle.judge.specs.declared.legal.LegalAnswer.{LegalAnswer}
 use Rattle.judge.specs.declared.counterexample.CounterexampleAnswer.{CounterexampleAnswer}
 use Rattle.judge.specs.declared.legal.LegalAnswer.the-variants as legal
 use Rattle.judge.specs.declared.counterexample.CounterexampleAnswer.the-variants.{No, Yes, Refused}
-
--- an accepted state gives each constant its object, and different constants different ones
-module _ (s : Signature) (w : List ℕ) (fine : AcceptedState s w) where
-  named : (a : ℕ) → a < s .constants → stateOf w .names a < objects w
-  named a h =
-      let once = constant-once s w (passes-10 s w fine) a h in
-      let (i, l, e) = any-found (namesAt w a) (entries stateLayout w) (count-found (namesAt w a) (entries stateLayout w) (omega (arith, once))) in
-      let inside = fact-object s w i (fact-faultless s w (passes-8 s w fine) i l) in
-      omega (arith, name-is w a once i l e inside, inside)
-
-  pub accepted-names : Names s (stateOf w)
-  unfolding stateOf refusal-10
-  accepted-names =
-      record {
-        inside = named;
-        apart = λ a h.
-            or-false-right (not (eqb (count (entries stateLayout w) (namesAt w a)) 1)) _
-            (any-none (misnames w) (s .constants) (passes-10 s w fine) a h);
-      }
+use Rattle.records.proofs.AcceptedNames.{accepted-names}
+use Rattle.judge.proofs.SelectedLaws.{selection-selected}
 
 module _ (S : Schema) (I : State) (names : Names (S .signature) I) where
   -- no axiom is broken in a legal state, and a state with no broken axiom is legal
@@ -203,55 +178,6 @@ module _ (S : Schema) (I : State) (names : Names (S .signature) I) where
 
       broken : (k : ℕ) → FirstBroken S I k → cond (eqb (firstBroken S I) (S .axioms)) legal.Legal (legal.Broken (firstBroken S I)) ≡ legal.Broken k
       broken k f = rw (ne-eqb (firstBroken S I) (S .axioms) (λ z. omega (arith, z, first-is k f, f .inside)), first-is k f)
-
--- Select's words: a mark for each object, and the rest as it was.
-
-module _ (f : ℕ → Bool) where
-  mark-at : (n i : ℕ) → i < n → getD (marks f n) i 0 ≡ cond (f i) 1 0
-  unfolding marks
-  mark-at zero i l = absurd (omega arith)
-  mark-at (suc n) i l =
-      elim (decLt i n) [
-        | yes h ↦ List·getD-append (marks f n) _ 0 i (omega (arith, marks-length f n)) ∙ mark-at n i h
-        | no h ↦
-            let e : i ≡ length (marks f n) + 0 = omega (arith, marks-length f n) in
-            let q : i ≡ n = omega arith in
-            ap (λ (k : ℕ). getD (marks f n ++ (cond (f n) 1 0 ∷ [])) k 0) e
-            ∙ getD-append-add (marks f n) (cond (f n) 1 0 ∷ []) 0 0 ∙ ap (λ (k : ℕ). cond (f k) 1 0) (sym q)
-      ]
-
-mark-one : (b : Bool) → b ≡ eqb (cond b 1 0) 1
-mark-one true = refl
-mark-one false = refl
-
-module _ (I : State) (C : Concept) (lent : List ℕ) (room : I .size ≤ length lent) where
-  abbrev words : List ℕ
-  words = marks (isIn I C) (I .size) ++ drop (I .size) lent
-
-  word-at : (i : ℕ) → i < I .size → getD words i 0 ≡ cond (isIn I C i) 1 0
-  word-at i l = List·getD-append (marks (isIn I C) (I .size)) _ 0 i (omega (arith, marks-length (isIn I C) (I .size))) ∙ mark-at (isIn I C) (I .size) i l
-
-  word-later : (i : ℕ) → I .size ≤ i → getD words i 0 ≡ getD lent i 0
-  word-later i l =
-      let e : i ≡ length (marks (isIn I C) (I .size)) + (i - I .size) = omega (arith, marks-length (isIn I C) (I .size)) in
-      let q : I .size + (i - I .size) ≡ i = omega arith in
-      ap (λ (k : ℕ). getD words k 0) e
-      ∙ getD-append-add (marks (isIn I C) (I .size)) (drop (I .size) lent) (i - I .size) 0
-      ∙ getD-drop (I .size) lent (i - I .size) 0 ∙ ap (λ (k : ℕ). getD lent k 0) q
-
-  pub selection-selected : Selected I C lent (selection I C lent .answer) (selection I C lent .words)
-  unfolding selection
-  selection-selected =
-      record {
-        chosen = λ i s. word-at i (s .0) ∙ rw (isIn-iff I C i .1 (s .1));
-        others = λ i l n. word-at i l ∙ rw (false-of (isIn I C i) (λ t. n (l, isIn-iff I C i .0 t)));
-        later = word-later;
-        kept = simp (length-append, length-drop) (omega (arith, marks-length (isIn I C) (I .size)));
-        counted =
-            ap select.Selected
-            (count-same (isIn I C) (λ i. eqb (getD words i 0) 1) (I .size)
-            (λ i l. mark-one (isIn I C i) ∙ ap (λ (k : ℕ). eqb k 1) (sym (word-at i l))));
-      }
 
 -- To any words.
 

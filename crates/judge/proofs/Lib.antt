@@ -3,4 +3,5 @@ pub mod LegalLaws
 pub mod SelectLaws
 mod MarkLaws
 pub mod CounterexampleLaws
+mod SelectedLaws
 pub mod Exactness
