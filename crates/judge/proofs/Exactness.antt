@@ -1,6 +1,6 @@
 -- What the entries' answers mean (specs/Exact.antt), for any words: select-exact, legal-exact and counterexample-exact. First of
 -- accepted records: legal means Legal, an object that is answered is the lowest Counterexample, and a mark tells Selects.
-use Prim.Native.Nat.{ℕ, _-_, _<_}
+use Prim.Native.Nat.{ℕ, _<_}
 use mathlib.Core.List.{List, []}
 use mathlib.Core.Bool.{Bool, true, false, So, cond, not, _&&_, false≢true}
 use mathlib.Core.Logic.{_↔_, _⊎_, inl, inr, ⊎-elim}

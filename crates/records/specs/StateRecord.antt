@@ -28,6 +28,7 @@ saysPair w k d e =
 
 -- The first kinds put the object in that class; then come the attributes, with the object as first of a pair,
 -- and then the constants whose object it is. (A constant without an object is refused: it gets N, which is none.)
+-- (A class or attribute number past the last reads facts of other kinds; nothing that is accepted asks for one.)
 unfoldable pub stateOf : List ℕ → State
 stateOf w =
     record {
