@@ -1,7 +1,12 @@
 -- Laws that several proofs here share.
 mod RowLaws
 mod FactLaws
+mod TokenLaws
 mod SelectionLaws
 mod StepLaws
-mod TokenLaws
+mod ReachLaws
+mod RelationLaws
+mod MeetLaws
+mod WalkLaws
+mod LandLaws
 mod PlaceLaws

@@ -4,4 +4,5 @@ pub mod Evaluable
 -- What contracts of helper functions cite, and nothing above them.
 pub mod Rows
 pub mod Steps
+pub mod Relation
 pub mod Places

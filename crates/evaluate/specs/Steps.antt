@@ -1,17 +1,36 @@
--- What the helpers of a step promise: a fact of the step's kind carries a row of the relation to the row of its target.
-use Prim.Native.Nat.{ℕ, _<_}
-use mathlib.Core.Bool.{Bool, cond, not, _&&_, _||_}
+-- A step of a path by the facts of its kind, and the set of the objects from which it leads into a set.
+use Prim.Native.Nat.{ℕ, _+_, _^_, _≤_, _<_}
+use mathlib.Core.Bool.{Bool, true, false, cond, not, _&&_}
 use mathlib.Core.List.{List}
 use mathlib.Core.Path.{_≡_}
 use lib.Dec.{eqb}
 use lib.ListN.{length}
+use Rattle.records.specs.declared.concept.Token.{Token}
+use Rattle.records.specs.declared.concept.Token.the-variants.{Class, Everything, Constant, Both, Empty, Forward, Backward, Reached, Common}
 use Rattle.records.specs.Finite.{any}
-use Rattle.records.specs.Layout.{objectPart, stateLayout, rightAt}
-use Rattle.records.specs.StateRecord.{kindAt, objectAt}
+use Rattle.records.specs.Layout.{objectPart, stateLayout, entries, rightAt, attributeKinds, factKinds, maxObjects, maxFacts}
+use Rattle.records.specs.StateRecord.{objects, kindAt, objectAt}
 use Rattle.index.specs.BitSet.{bitAt}
-use Rattle.evaluate.specs.declared.relation.Step.{Step}
-use Rattle.evaluate.specs.Selection.{relationWords}
+use Rattle.index.specs.Kinds.{KindsRise}
+use Rattle.evaluate.specs.declared.steps.Step.{Step}
+use Rattle.evaluate.specs.Selection.{setWords}
 use Rattle.evaluate.specs.Rows.{rowBit}
+
+-- the step along an attribute
+abbrev pub along : Bool → ℕ → Step
+along back P = record { kind = attributeKinds + P; backward = back }
+
+-- the step of a token; other tokens are no steps
+abbrev pub stepOf : Token → Step
+stepOf (Class A) = record { kind = factKinds; backward = false }
+stepOf Everything = record { kind = factKinds; backward = false }
+stepOf (Constant a) = record { kind = factKinds; backward = false }
+stepOf Both = record { kind = factKinds; backward = false }
+stepOf Empty = record { kind = factKinds; backward = false }
+stepOf (Forward P) = along false P
+stepOf (Backward P) = along true P
+stepOf Reached = record { kind = factKinds; backward = false }
+stepOf Common = record { kind = factKinds; backward = false }
 
 -- the first or the second object of the pair that fact i is
 abbrev pub endAt : List ℕ → Bool → ℕ → ℕ
@@ -24,16 +43,23 @@ originAt w x i = endAt w (x .backward) i
 abbrev pub targetAt : List ℕ → Step → ℕ → ℕ
 targetAt w x i = endAt w (not (x .backward)) i
 
--- fact i leads the step from an object that o led to in the old relation to t, and t is in the set
-abbrev pub carries : List ℕ → Step → List ℕ → List ℕ → ℕ → ℕ → ℕ → Bool
-carries w x into old t o i = eqb (kindAt w i) (x .kind) && eqb (targetAt w x i) t && bitAt into t && rowBit old (originAt w x i) o
+-- what following a step asks: the facts of a kind stand in a row, and name objects that there are
+pub record Followable (w : List ℕ) (x : Step) : Type 0 where
+  pub rise : KindsRise w
+  pub few : entries stateLayout w ≤ maxFacts
+  pub room : objects w ≤ maxObjects
+  pub inside : (second : Bool) (i : ℕ) → i < entries stateLayout w → endAt w second i < objects w
+  pub kind : x .kind < 2 ^ 17
 
--- vs is ws with what fact i carries put in
-pub record Followed (w : List ℕ) (x : Step) (into old ws : List ℕ) (i : ℕ) (vs : List ℕ) : Type 0 where
-  pub size : length vs ≡ length ws
-  pub bits : (t o : ℕ) → t < objectPart → o < objectPart → rowBit vs t o ≡ (rowBit ws t o || carries w x into old t o i)
+-- fact i is of the step's kind and lands on an object of row a of the landings
+abbrev pub lands : List ℕ → Step → List ℕ → ℕ → ℕ → Bool
+lands w x landings a i = eqb (kindAt w i) (x .kind) && rowBit landings a (targetAt w x i)
 
--- vs is what the first n facts carry of the old relation
-pub record Stepped (w : List ℕ) (x : Step) (into old : List ℕ) (n : ℕ) (vs : List ℕ) : Type 0 where
-  pub size : length vs ≡ relationWords
-  pub bits : (t o : ℕ) → t < objectPart → o < objectPart → rowBit vs t o ≡ any n (carries w x into old t o)
+-- .. from o into the set
+abbrev pub leadsInto : List ℕ → Step → List ℕ → ℕ → List ℕ → ℕ → ℕ → Bool
+leadsInto w x landings a into o i = lands w x landings a i && bitAt into (targetAt w x i) && eqb o (originAt w x i)
+
+-- vs is the set of the objects from which the first n facts lead the step into a set
+pub record Origins (w : List ℕ) (x : Step) (landings : List ℕ) (a : ℕ) (into : List ℕ) (n : ℕ) (vs : List ℕ) : Type 0 where
+  pub size : length vs ≡ setWords
+  pub bits : (o : ℕ) → o < objectPart → bitAt vs o ≡ any n (leadsInto w x landings a into o)

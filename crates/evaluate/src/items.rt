@@ -1,26 +1,25 @@
 // The evaluation of a concept record from the right: the item that ends at a place is read at the token before it, its last
 // operand ends there, and the operand before that one where the last one starts. So each token is evaluated once.
-use crate::layout::RELATION_WORDS;
+// What a step of a path lands on is kept in the landings, at the place of its token: a path is walked when all its landing
+// concepts are evaluated, so that nothing but sets is held meanwhile.
 use crate::layout::SET_WORDS;
-use crate::relation::Step;
-use crate::relation::advance;
-use crate::relation::identity;
+use crate::meeting::meeting;
+use crate::reaching::reaching;
 use crate::sets::everything;
 use crate::sets::kind_set;
-use crate::sets::shared;
+use crate::sets::put;
 use crate::sets::shared_row;
 use index::left::TABLE_WORDS;
 use records::concept::Token;
+use records::concept::is_step;
 use records::concept::token_at;
-use records::state::ATTRIBUTE_KINDS;
 use records::state::CONSTANT_KINDS;
 use records::state::objects;
-ghost use Prim.Native.Nat.{suc, _<_, _^_};
+ghost use Prim.Native.Nat.{suc};
 ghost use mathlib.Core.Path.{_≡_};
 ghost use Rattle.records.specs.declared.concept.Token.the-variants.{Both, Reached, Common};
-ghost use Rattle.records.specs.Concept.{directionOf};
 ghost use Rattle.records.specs.ConceptRecord.{tokenAt};
-ghost use Rattle.records.specs.Helpers.Reading.{HasConcept, HasPath, stepToken};
+ghost use Rattle.records.specs.Helpers.Reading.{HasConcept, HasPath};
 ghost use Rattle.evaluate.specs.Places.{Place, ConceptAt, PathAt};
 
 // Where a concept's tokens start, and the set that it selects.
@@ -30,10 +29,16 @@ pub struct Found {
 }
 
 // The concept that ends at `end`.
-pub fn concept(words: &[u16], state: &[u16], seen: &[u64; TABLE_WORDS], end: usize) -> Found
-    requires { ⌜ Place (now words) (now state) (now seen) end ⌝ }
+pub fn concept(
+    words: &[u16],
+    state: &[u16],
+    seen: &[u64; TABLE_WORDS],
+    end: usize,
+    landings: &mut [u64],
+) -> Found
+    requires { ⌜ Place (now words) (now state) (now seen) (now landings) end ⌝ }
     requires { ⌜ HasConcept (now words) end ⌝ }
-    ensures { λ r. ⌜ ConceptAt (now (words .entry)) (now (state .entry)) end r ⌝ }
+    ensures { λ r. ⌜ ConceptAt (now (words .entry)) (now (state .entry)) end (now (landings .entry)) (now (landings .exit)) r ⌝ }
 {
     let at = end - 1;
     match token_at(words, at) {
@@ -49,9 +54,9 @@ pub fn concept(words: &[u16], state: &[u16], seen: &[u64; TABLE_WORDS], end: usi
             start: at,
             set: kind_set(seen, CONSTANT_KINDS + a),
         },
-        Token::Both => both(words, state, seen, at),
-        Token::Reached => reached(words, state, seen, at),
-        Token::Common => common(words, state, seen, at),
+        Token::Both => both(words, state, seen, at, landings),
+        Token::Reached => reached(words, state, seen, at, landings),
+        Token::Common => common(words, state, seen, at, landings),
         // A path's tokens end no concept.
         Token::Empty | Token::Forward(_) | Token::Backward(_) => Found {
             start: at,
@@ -61,14 +66,20 @@ pub fn concept(words: &[u16], state: &[u16], seen: &[u64; TABLE_WORDS], end: usi
 }
 
 // Both of two concepts, whose token stands at `at`.
-fn both(words: &[u16], state: &[u16], seen: &[u64; TABLE_WORDS], at: usize) -> Found
-    requires { ⌜ Place (now words) (now state) (now seen) (suc at) ⌝ }
+fn both(
+    words: &[u16],
+    state: &[u16],
+    seen: &[u64; TABLE_WORDS],
+    at: usize,
+    landings: &mut [u64],
+) -> Found
+    requires { ⌜ Place (now words) (now state) (now seen) (now landings) (suc at) ⌝ }
     requires { ⌜ HasConcept (now words) (suc at) ⌝ }
     requires { ⌜ tokenAt (now words) at ≡ Both ⌝ }
-    ensures { λ r. ⌜ ConceptAt (now (words .entry)) (now (state .entry)) (suc at) r ⌝ }
+    ensures { λ r. ⌜ ConceptAt (now (words .entry)) (now (state .entry)) (suc at) (now (landings .entry)) (now (landings .exit)) r ⌝ }
 {
-    let last = concept(words, state, seen, at);
-    let first = concept(words, state, seen, last.start);
+    let last = concept(words, state, seen, at, landings);
+    let first = concept(words, state, seen, last.start, landings);
     let ps = first.set;
     let qs = last.set;
     Found {
@@ -77,92 +88,66 @@ fn both(words: &[u16], state: &[u16], seen: &[u64; TABLE_WORDS], at: usize) -> F
     }
 }
 
-// Some object is reached by a path; its token stands at `at`. Relations are locals of this function and the next alone, so
-// that other concepts take little stack. What a relation shares with itself is all that it has.
-fn reached(words: &[u16], state: &[u16], seen: &[u64; TABLE_WORDS], at: usize) -> Found
-    requires { ⌜ Place (now words) (now state) (now seen) (suc at) ⌝ }
+// Some object is reached by a path; its token stands at `at`.
+fn reached(
+    words: &[u16],
+    state: &[u16],
+    seen: &[u64; TABLE_WORDS],
+    at: usize,
+    landings: &mut [u64],
+) -> Found
+    requires { ⌜ Place (now words) (now state) (now seen) (now landings) (suc at) ⌝ }
     requires { ⌜ HasConcept (now words) (suc at) ⌝ }
     requires { ⌜ tokenAt (now words) at ≡ Reached ⌝ }
-    ensures { λ r. ⌜ ConceptAt (now (words .entry)) (now (state .entry)) (suc at) r ⌝ }
+    ensures { λ r. ⌜ ConceptAt (now (words .entry)) (now (state .entry)) (suc at) (now (landings .entry)) (now (landings .exit)) r ⌝ }
 {
-    let mut rel = [0u64; RELATION_WORDS];
-    let start = path(words, state, seen, at, &mut rel);
+    let start = path(words, state, seen, at, landings);
     Found {
         start,
-        set: shared(&rel, &rel, objects(state)),
+        set: reaching(words, state, landings, at),
     }
 }
 
 // Two paths reach a common object; their token stands at `at`.
-fn common(words: &[u16], state: &[u16], seen: &[u64; TABLE_WORDS], at: usize) -> Found
-    requires { ⌜ Place (now words) (now state) (now seen) (suc at) ⌝ }
+fn common(
+    words: &[u16],
+    state: &[u16],
+    seen: &[u64; TABLE_WORDS],
+    at: usize,
+    landings: &mut [u64],
+) -> Found
+    requires { ⌜ Place (now words) (now state) (now seen) (now landings) (suc at) ⌝ }
     requires { ⌜ HasConcept (now words) (suc at) ⌝ }
     requires { ⌜ tokenAt (now words) at ≡ Common ⌝ }
-    ensures { λ r. ⌜ ConceptAt (now (words .entry)) (now (state .entry)) (suc at) r ⌝ }
+    ensures { λ r. ⌜ ConceptAt (now (words .entry)) (now (state .entry)) (suc at) (now (landings .entry)) (now (landings .exit)) r ⌝ }
 {
-    let mut last = [0u64; RELATION_WORDS];
-    let middle = path(words, state, seen, at, &mut last);
-    let mut first = [0u64; RELATION_WORDS];
-    let start = path(words, state, seen, middle, &mut first);
+    let middle = path(words, state, seen, at, landings);
+    let start = path(words, state, seen, middle, landings);
     Found {
         start,
-        set: shared(&first, &last, objects(state)),
+        set: meeting(words, state, landings, middle, at),
     }
 }
 
-// The path that ends at `end`, written to `rel`. Returns where its tokens start.
+// The path that ends at `end`: what its steps land on. Returns where its tokens start.
 pub fn path(
     words: &[u16],
     state: &[u16],
     seen: &[u64; TABLE_WORDS],
     end: usize,
-    rel: &mut [u64; RELATION_WORDS],
+    landings: &mut [u64],
 ) -> usize
-    requires { ⌜ Place (now words) (now state) (now seen) end ⌝ }
+    requires { ⌜ Place (now words) (now state) (now seen) (now landings) end ⌝ }
     requires { ⌜ HasPath (now words) end ⌝ }
-    ensures { λ r. ⌜ PathAt (now (words .entry)) (now (state .entry)) end r (now (rel .exit)) ⌝ }
+    ensures { λ r. ⌜ PathAt (now (words .entry)) (now (state .entry)) end (now (landings .entry)) (now (landings .exit)) r ⌝ }
 {
     let at = end - 1;
-    match token_at(words, at) {
-        Token::Empty => {
-            identity(objects(state), rel);
-            at
-        }
-        Token::Forward(p) => step(words, state, seen, at, p, false, rel),
-        Token::Backward(p) => step(words, state, seen, at, p, true, rel),
-        // A concept's tokens end no path.
-        Token::Class(_)
-        | Token::Everything
-        | Token::Constant(_)
-        | Token::Both
-        | Token::Reached
-        | Token::Common => at,
+    if is_step(token_at(words, at)) {
+        let landing = concept(words, state, seen, at, landings);
+        let set = landing.set;
+        put(landings, at, &set);
+        path(words, state, seen, landing.start, landings)
+    } else {
+        at
     }
-}
-
-// The path with a step at its end, whose token stands at `at`.
-fn step(
-    words: &[u16],
-    state: &[u16],
-    seen: &[u64; TABLE_WORDS],
-    at: usize,
-    attribute: usize,
-    backward: bool,
-    rel: &mut [u64; RELATION_WORDS],
-) -> usize
-    requires { ⌜ Place (now words) (now state) (now seen) (suc at) ⌝ }
-    requires { ⌜ HasPath (now words) (suc at) ⌝ }
-    requires { ⌜ tokenAt (now words) at ≡ stepToken (directionOf backward) attribute ⌝ }
-    requires { ⌜ attribute < 2 ^ 16 ⌝ }
-    ensures { λ r. ⌜ PathAt (now (words .entry)) (now (state .entry)) (suc at) r (now (rel .exit)) ⌝ }
-{
-    let landing = concept(words, state, seen, at);
-    let start = path(words, state, seen, landing.start, rel);
-    let into = landing.set;
-    let step = Step {
-        kind: ATTRIBUTE_KINDS + attribute,
-        backward,
-    };
-    advance(state, step, &into, rel);
-    start
 }

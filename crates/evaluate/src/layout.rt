@@ -1,12 +1,10 @@
-// The sizes of sets and relations in words.
+// The sizes of sets and of what evaluation keeps, in words.
 use index::bits::WORD_BITS;
+use records::concept::MAX_TOKENS;
 use records::state::OBJECT_PART;
 
 // A bit for each object that a fact can name.
 pub const SET_WORDS: usize = OBJECT_PART / WORD_BITS;
 
-// A row for each target, the set of the origins that lead there.
-pub const RELATION_WORDS: usize = OBJECT_PART * SET_WORDS;
-
-// From one bit of the diagonal to the next.
-pub const DIAGONAL: usize = OBJECT_PART + 1;
+// A set for each place of a token.
+pub const LANDING_WORDS: usize = MAX_TOKENS * SET_WORDS;

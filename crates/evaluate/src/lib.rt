@@ -1,4 +1,5 @@
 // Which objects a concept selects in a state: document 01, "Meaning". The records must be accepted ones.
+use crate::layout::LANDING_WORDS;
 use crate::layout::SET_WORDS;
 use index::left::TABLE_WORDS;
 use records::concept::tokens;
@@ -10,8 +11,11 @@ ghost use Rattle.evaluate.specs.Selection.{Selection};
 
 mod items;
 pub mod layout;
+mod meeting;
+mod reaching;
 mod relation;
 mod sets;
+mod steps;
 
 pub fn evaluate(
     s: Signature,
@@ -22,6 +26,7 @@ pub fn evaluate(
     requires { ⌜ Evaluable s (now concept) (now state) (now seen) ⌝ }
     ensures { λ r. ⌜ Selection (stateOf (now (state .entry))) (conceptOf (now (concept .entry))) r ⌝ }
 {
-    let found = items::concept(concept, state, seen, tokens(concept));
+    let mut landings = [0u64; LANDING_WORDS];
+    let found = items::concept(concept, state, seen, tokens(concept), &mut landings);
     found.set
 }

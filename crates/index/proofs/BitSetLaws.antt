@@ -32,7 +32,7 @@ zero-bits n b = pick (decLt (b / wordBits) n)
     pick (no m) = past-bits (replicate n 0) b (rw (length-replicate {A = ℕ} n 0) (omega arith))
 
 -- the shifted 1 of the code
-one-bit : (b : ℕ) → 1 * 2 ^ (b % wordBits) % 2 ^ wordBits ≡ 2 ^ (b % wordBits)
+pub one-bit : (b : ℕ) → 1 * 2 ^ (b % wordBits) % 2 ^ wordBits ≡ 2 ^ (b % wordBits)
 one-bit b = shl-exact 1 (b % wordBits) wordBits (omega arith) (omega arith) ∙ one-mul (2 ^ (b % wordBits))
 
 pub insert-is : (ws : List ℕ) (b : ℕ) → b / wordBits < length ws → Inserted ws b (set ws (b / wordBits) (bitOr (getD ws (b / wordBits) 0) (1 * 2 ^ (b % wordBits) % 2 ^ wordBits)))

@@ -81,11 +81,11 @@ module _ (w : List ℕ) {k : ℕ} where
     pub kind-before : {from : ℕ} → KindParts w k from from → any from f ≡ false
     kind-before {from} p = none-any f from λ i l. false-of _ λ t. omega (arith, of i t, p .lower i l)
 
-    pub kind-after : {to : ℕ} → KindParts w (k + 1) to to → any (entries stateLayout w) f ≡ any to f
-    kind-after {to} p =
-        test-same _ _ (λ t. let (i, l, e) = any-found f (entries stateLayout w) t in any-of f to i (below i l e (decLt i to)) e)
-        (λ t. let (i, l, e) = any-found f to t in any-of f (entries stateLayout w) i (omega (arith, p .within)) e)
+    pub kind-after : {to i : ℕ} → KindParts w (k + 1) to to → to ≤ i → i ≤ entries stateLayout w → any (entries stateLayout w) f ≡ any i f
+    kind-after {to} {i} p a b =
+        test-same _ _ (λ t. let (j, l, e) = any-found f (entries stateLayout w) t in any-of f i j (below j l e (decLt j i)) e)
+        (λ t. let (j, l, e) = any-found f i t in any-of f (entries stateLayout w) j (omega arith) e)
       where
-        below : (i : ℕ) → i < entries stateLayout w → So (f i) → Dec (i < to) → i < to
-        below i l e (yes m) = m
-        below i l e (no n) = absurd (omega (arith, of i e, p .rest i (omega arith) l))
+        below : (j : ℕ) → j < entries stateLayout w → So (f j) → Dec (j < i) → j < i
+        below j l e (yes m) = m
+        below j l e (no n) = absurd (omega (arith, of j e, p .rest j (omega arith) l))

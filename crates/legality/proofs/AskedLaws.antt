@@ -53,4 +53,4 @@ module _ (w seen : List ℕ) (x : Axiom) {k : ℕ} (is : k ≡ kindAsked x) wher
 
   -- and so, where none of the row breaks it, of all facts
   pub pairs-after : {to : ℕ} → KindParts w (k + 1) to to → any to (pairBreaks w seen x) ≡ false → any (entries stateLayout w) (pairBreaks w seen x) ≡ false
-  pairs-after p e = kind-after w (pairBreaks w seen x) asked-kind p ∙ e
+  pairs-after p e = kind-after w (pairBreaks w seen x) asked-kind p (omega arith) (p .within) ∙ e

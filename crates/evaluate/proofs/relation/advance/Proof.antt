@@ -1,33 +1,44 @@
--- The relation holds what the facts passed carry of the old one (Stepped, fact by fact).
-use Prim.Native.Nat.{_≤_, _-_}
-use mathlib.Core.Path.{refl, _∙_}
-use Rattle.evaluate.specs.Selection.{relationWords}
-use Rattle.evaluate.specs.Steps.{Stepped}
-use Rattle.evaluate.proofs.StepLaws.{stepped-none, stepped-more}
-use native.Mathlib.Nat.{le-antisymm}
+-- The relation holds what the facts passed carry of the old one (Stepped); before the row of the kind and after it there is
+-- nothing.
+use Prim.Native.Nat.{_≤_, _<_, _-_}
+use Rattle.evaluate.proofs.RelationLaws.{stepped-none, stepped-more, stepped-all}
+use Rattle.evaluate.specs.Relation.{Stepped}
+use Rattle.index.proofs.KindLaws.{kind-within}
+use Rattle.records.specs.Layout.{stateLayout, entries}
+use mathlib.Core.Bool.{not}
 use native.Mathlib.Omega.{arith}
 use borrow.Author.Needs.{needs}
 use Rattle.evaluate.proofs.relation.advance.Statement.{statement}
 use Rattle.evaluate.proofs.relation.advance.Tie as tie
 
 abbrev Inv-loop : tie.InvT-loop
-Inv-loop state step into rel₀ n old i₀ rel i = (i ≤ n) × Stepped state step into old i rel
+Inv-loop state step landings at old rel₀ from to i₀ rel i = (from ≤ i) × (i ≤ entries stateLayout state) × Stepped state step landings at old rel₀ i rel
 
 abbrev μ-loop : tie.MeasureT-loop
-μ-loop state step into rel₀ n old i₀ rel i = n - i
+μ-loop state step landings at old rel₀ from to i₀ rel i = to - i
 
-facts-requires : tie.Need-facts-requires Inv-loop μ-loop
-facts-requires c κs = search needs
+objects-requires : tie.Need-objects-requires Inv-loop μ-loop
+objects-requires c κs = search needs
+
+clear-requires : tie.Need-clear-requires Inv-loop μ-loop
+clear-requires c κs = omega (arith, c .objects .ensures .value, c .before .before .before .before .before .before .pre .1 .1 .1)
+
+first-of-kind-requires : tie.Need-first-of-kind-requires Inv-loop μ-loop
+first-of-kind-requires c κs = c .before .before .before .before .before .before .before .before .before .pre .0 .rise
+
+add-first-of-kind : tie.Need-add-first-of-kind Inv-loop μ-loop
+add-first-of-kind c = omega (arith, c .before .before .before .before .before .before .before .before .before .before .before .pre .0 .kind)
+
+first-of-kind-requires-2 : tie.Need-first-of-kind-requires-2 Inv-loop μ-loop
+first-of-kind-requires-2 c κs = c .before .before .before .before .before .before .before .before .before .before .before .pre .0 .rise
 
 loop-holds : tie.Need-loop-holds Inv-loop μ-loop
-loop-holds c = (omega arith, stepped-none relationWords refl)
-
-slice-aggregate-follow : tie.Need-slice-aggregate-follow Inv-loop μ-loop
-slice-aggregate-follow c = search needs
+loop-holds c = (omega arith, c .before .before .first-of-kind .ensures .within, stepped-none {x = c .before .before .before .before .before .before .before .before .before .before .before .before .args .step} (c .before .before .before .before .before .before .objects .ensures .value) (c .before .before .before .before .before .clear .ensures) (c .before .before .first-of-kind .ensures))
 
 follow-requires : tie.Need-follow-requires Inv-loop μ-loop
 follow-requires c κs =
-    (omega arith, (c .before .before .before .before .before .before .before .before .before .pre .0, (c .before .before .before .before .before .before .before .before .before .pre .1 .0, (c .before .before .before .before .loop .inv .1 .size, c .before .before .before .before .before .before .before .before .before .pre .1 .1 (c .before .before .before .before .loop .i) (omega arith)))))
+    let l : c .before .before .loop .i < entries stateLayout (c .before .before .before .before .before .before .before .before .before .before .before .before .before .before .before .args .state .now) = omega (arith, c .before .loop-test .taken, c .before .before .before .first-of-kind2 .ensures .within) in
+    (omega (arith, l, c .before .before .before .before .before .before .before .before .before .before .before .before .before .before .before .pre .0 .few), (c .before .before .before .before .before .before .before .before .before .before .before .before .before .before .before .pre .1 .0, (kind-within _ (c .before .before .before .before .before .first-of-kind .ensures) (c .before .before .before .first-of-kind2 .ensures) _ (c .before .before .loop .inv .0) (c .before .loop-test .taken), (omega (arith, c .before .before .loop .inv .2 .size, c .before .before .before .before .before .before .before .before .clear .ensures .size, c .before .before .before .before .before .before .before .before .before .before .before .before .before .before .before .pre .1 .1 .1, c .before .before .before .before .before .before .before .before .before .before .before .before .before .before .before .pre .0 .inside (not (c .before .before .before .before .before .before .before .before .before .before .before .before .before .before .before .args .step .backward)) (c .before .before .loop .i) l), omega (arith, c .before .before .before .before .before .before .before .before .before .before .before .before .before .before .before .pre .1 .1 .0, c .before .before .before .before .before .before .before .before .before .before .before .before .before .before .before .pre .0 .inside (c .before .before .before .before .before .before .before .before .before .before .before .before .before .before .before .args .step .backward) (c .before .before .loop .i) l)))))
 
 add-i : tie.Need-add-i Inv-loop μ-loop
 add-i c = search needs
@@ -36,10 +47,13 @@ loop-less : tie.Need-loop-less Inv-loop μ-loop
 loop-less c = search needs
 
 loop-again : tie.Need-loop-again Inv-loop μ-loop
-loop-again c = (omega arith, stepped-more (c .before .before .before .before .before .loop .inv .1) (c .follow .ensures))
+loop-again c = (omega arith, omega (arith, c .before .before .before .before .loop-test .taken, c .before .before .before .before .before .before .first-of-kind2 .ensures .within), stepped-more (c .before .before .before .before .before .loop .inv .2) (c .before .before .follow .ensures))
+
+same-length : tie.Need-same-length Inv-loop μ-loop
+same-length c = search needs
 
 returns : tie.Need-returns Inv-loop μ-loop
-returns c = rw (le-antisymm (c .before .loop .inv .0) (c .loop-test .left) ∙ c .before .before .before .before .facts .ensures .value) at (c .before .loop .inv .1)
+returns c = stepped-all (c .before .before .before .before .before .before .before .clear .ensures) (c .before .loop .inv .2) (c .before .before .first-of-kind2 .ensures) (c .loop-test .left) (c .before .loop .inv .1)
 
 pub advance-spec : {M : Type 1} → statement M
 advance-spec =
@@ -47,11 +61,15 @@ advance-spec =
     (tie.spec
     Inv-loop
     μ-loop
-    facts-requires
+    objects-requires
+    clear-requires
+    first-of-kind-requires
+    add-first-of-kind
+    first-of-kind-requires-2
     loop-holds
-    slice-aggregate-follow
     follow-requires
     add-i
     loop-less
     loop-again
+    same-length
     returns)

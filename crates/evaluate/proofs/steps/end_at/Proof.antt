@@ -1,7 +1,7 @@
 -- A case for each end.
 use borrow.Author.Needs.{needs}
-use Rattle.evaluate.proofs.relation.end_at.Statement.{statement}
-use Rattle.evaluate.proofs.relation.end_at.Tie as tie
+use Rattle.evaluate.proofs.steps.end_at.Statement.{statement}
+use Rattle.evaluate.proofs.steps.end_at.Tie as tie
 
 state-layout-requires : tie.Need-state-layout-requires
 state-layout-requires c κs = search needs
