@@ -8,7 +8,7 @@ import sys
 import tempfile
 
 from triples import ROOT, TRIPLES, files
-from words import BACKWARD, BOTH, CLASS, COMMON, CONSTANT, EMPTY, EVERYTHING, FORWARD, REACHED, concept
+from words import BACKWARD, BOTH, CLASS, COMMON, CONSTANT, EMPTY, EVERYTHING, FORWARD, REACHED, axioms, concept, schema
 
 PROGRAM = ROOT / "target" / "bin" / "bikuvoa"
 
@@ -75,24 +75,27 @@ class State:
         return pile.pop()
 
 
-def judged(lines, schema, query, view):
+def judged(lines, schema_words, query, view):
     state = State(lines)
-    n = schema[3]
-    assert not any(state.breaks(*axiom) for axiom in zip(schema[4:4 + n], schema[4 + n:])), "a legal state"
+    assert not any(state.breaks(*axiom) for axiom in axioms(schema_words)), "a legal state"
     assert state.object in state.selects(query) - state.selects(view), "an object in the query and outside the view"
 
 
+def contents_of(schema_words, query, view):
+    """The files of a triple, name to bytes."""
+    return {path.name: content for path, content in files(pathlib.Path(), schema_words, concept(query), concept(view)).items()}
+
+
 def main():
-    for i, (schema, query, view, verdict) in enumerate(TRIPLES):
-        contents = {path.name: content for path, content in files(pathlib.Path(), schema, concept(query), concept(view)).items()}
-        lines = run(contents)
+    for i, (schema_words, query, view, verdict) in enumerate(TRIPLES):
+        lines = run(contents_of(schema_words, query, view))
         first = lines[0].split()
         assert first[:len(verdict.split())] == verdict.split(), (i, lines)
         if verdict == "OPEN":
-            judged(lines, schema, query, view)
+            judged(lines, schema_words, query, view)
         else:
             assert len(lines) == 1, (i, lines)
-    good = {path.name: content for path, content in files(pathlib.Path(), [0, 0, 0, 0], [1, 0, 2, 0], [1, 0, 2, 0]).items()}
+    good = contents_of(schema(0, 0, 0), [EVERYTHING], [EVERYTHING])
     spoilt = [({}, "REFUSED 1")]
     for name, number in (("schema.bin", 1), ("query.bin", 3), ("view.bin", 3)):
         spoilt.append(({k: v for k, v in good.items() if k != name}, f"REFUSED {number}"))

@@ -187,8 +187,7 @@ def spelled(rows, part=None):
 def split(record, shape):
     """The size words, and the left and right word of each entry."""
     sizes, _ = layout(shape)
-    n = (len(record) - sizes) // 2
-    return record[:sizes], list(zip(record[sizes:sizes + n], record[sizes + n:], strict=True))
+    return record[:sizes], words.entries(record, sizes)
 
 
 def stored(name):

@@ -10,6 +10,16 @@ def schema(classes, attributes, constants, axioms=()):
     return [classes, attributes, constants, len(axioms), *left, *right]
 
 
+def entries(record, sizes):
+    """The left and the right word of each entry, after so many size words."""
+    n = (len(record) - sizes) // 2
+    return list(zip(record[sizes:sizes + n], record[sizes + n:], strict=True))
+
+
+def axioms(record):
+    return entries(record, len(schema(0, 0, 0)))
+
+
 def concept(tokens, steps=None):
     pairs = [t if isinstance(t, tuple) else (t, 0) for t in tokens]
     counted = sum(sort in (FORWARD, BACKWARD) for sort, _ in pairs)
