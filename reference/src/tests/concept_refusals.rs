@@ -1,10 +1,10 @@
 //! Refusals 3 to 6 and the concept's limits.
 
-use super::write::{record, tokens_record};
+use super::write::{axioms_record, record, tokens_record};
 use crate::records::{concept, schema, QUERY_STEPS, VIEW_STEPS};
 
 fn refusal_under(words: &[u16], limit: u16) -> u16 {
-    let schema = schema(&[2, 1, 1, 0]).expect("an alphabet without axioms");
+    let schema = schema(&axioms_record([2, 1, 1], &[])).expect("an alphabet without axioms");
     concept(words, &schema, limit).err().unwrap_or(0)
 }
 

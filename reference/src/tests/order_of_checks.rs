@@ -1,16 +1,22 @@
 //! The order in which the records of one call are checked.
 
-use super::write::record;
+use super::write::{axioms_record, record};
 use crate::entries::{counterexample, decide, legal, select, Counterexample};
 
-const SCHEMA: [u16; 4] = [1, 0, 1, 0];
-const BAD_AXIOM: [u16; 6] = [1, 0, 1, 1, 0, 0];
 const CLASS: [u16; 4] = [1, 0, 1, 0];
 const EVERYTHING: [u16; 4] = [1, 0, 2, 0];
 const BAD_TOKEN: [u16; 4] = [1, 0, 1, 1];
 const BAD_PILE: [u16; 4] = [1, 0, 5, 0];
 const BAD_STEPS: [u16; 4] = [1, 1, 2, 0];
 const BAD_STATE: [u16; 2] = [1, 0];
+
+fn schema() -> Vec<u16> {
+    axioms_record([1, 0, 1], &[])
+}
+
+fn bad_axiom() -> Vec<u16> {
+    axioms_record([1, 0, 1], &[(0, 0)])
+}
 
 fn state() -> Vec<u16> {
     record(&[1, 1], &[(32 * 512, 0)])
@@ -19,45 +25,51 @@ fn state() -> Vec<u16> {
 #[test]
 fn the_schema_comes_first() {
     assert_eq!(select(&[], &[], &[], &mut []), Err(1));
-    assert_eq!(select(&BAD_AXIOM, &[], &[], &mut []), Err(2));
-    assert_eq!(legal(&BAD_AXIOM, &[]), Err(2));
+    assert_eq!(select(&bad_axiom(), &[], &[], &mut []), Err(2));
+    assert_eq!(legal(&bad_axiom(), &[]), Err(2));
     assert_eq!(counterexample(&[1], &[], &[], &[]), Err(1));
-    assert_eq!(decide(&BAD_AXIOM, &[], &[], 0), Err(2));
+    assert_eq!(decide(&bad_axiom(), &[], &[], 0), Err(2));
 }
 
 #[test]
 fn the_concept_comes_before_the_state() {
-    assert_eq!(select(&SCHEMA, &BAD_PILE, &[], &mut []), Err(5));
-    assert_eq!(select(&SCHEMA, &BAD_STEPS, &BAD_STATE, &mut []), Err(6));
+    assert_eq!(select(&schema(), &BAD_PILE, &[], &mut []), Err(5));
+    assert_eq!(select(&schema(), &BAD_STEPS, &BAD_STATE, &mut []), Err(6));
 }
 
 #[test]
 fn the_query_comes_before_the_view() {
-    assert_eq!(decide(&SCHEMA, &BAD_STEPS, &[], 0), Err(6));
-    assert_eq!(decide(&SCHEMA, &BAD_PILE, &BAD_TOKEN, 0), Err(5));
-    assert_eq!(counterexample(&SCHEMA, &BAD_STEPS, &BAD_PILE, &[]), Err(6));
+    assert_eq!(decide(&schema(), &BAD_STEPS, &[], 0), Err(6));
+    assert_eq!(decide(&schema(), &BAD_PILE, &BAD_TOKEN, 0), Err(5));
+    assert_eq!(
+        counterexample(&schema(), &BAD_STEPS, &BAD_PILE, &[]),
+        Err(6)
+    );
 }
 
 #[test]
 fn the_view_comes_before_the_state_and_the_lent_words() {
-    assert_eq!(counterexample(&SCHEMA, &CLASS, &BAD_TOKEN, &[]), Err(4));
-    assert_eq!(counterexample(&SCHEMA, &CLASS, &[], &BAD_STATE), Err(3));
-    assert_eq!(decide(&SCHEMA, &CLASS, &BAD_STEPS, 0), Err(6));
-    assert_eq!(decide(&SCHEMA, &CLASS, &CLASS, 0), Err(11));
+    assert_eq!(counterexample(&schema(), &CLASS, &BAD_TOKEN, &[]), Err(4));
+    assert_eq!(counterexample(&schema(), &CLASS, &[], &BAD_STATE), Err(3));
+    assert_eq!(decide(&schema(), &CLASS, &BAD_STEPS, 0), Err(6));
+    assert_eq!(decide(&schema(), &CLASS, &CLASS, 0), Err(11));
 }
 
 #[test]
 fn the_state_comes_before_the_lent_words() {
-    assert_eq!(select(&SCHEMA, &CLASS, &BAD_STATE, &mut []), Err(10));
-    assert_eq!(select(&SCHEMA, &CLASS, &[1], &mut []), Err(7));
-    assert_eq!(select(&SCHEMA, &CLASS, &state(), &mut []), Err(11));
-    assert_eq!(legal(&SCHEMA, &BAD_STATE), Err(10));
-    assert_eq!(counterexample(&SCHEMA, &CLASS, &CLASS, &BAD_STATE), Err(10));
+    assert_eq!(select(&schema(), &CLASS, &BAD_STATE, &mut []), Err(10));
+    assert_eq!(select(&schema(), &CLASS, &[1], &mut []), Err(7));
+    assert_eq!(select(&schema(), &CLASS, &state(), &mut []), Err(11));
+    assert_eq!(legal(&schema(), &BAD_STATE), Err(10));
+    assert_eq!(
+        counterexample(&schema(), &CLASS, &CLASS, &BAD_STATE),
+        Err(10)
+    );
 }
 
 #[test]
 fn counterexamples_need_a_legal_state() {
-    let needs = record(&[1, 1, 0, 1], &[(3 * 256, 0)]);
+    let needs = axioms_record([1, 1, 0], &[(3 * 256, 0)]);
     let open = [2, 0];
     let yes = counterexample(&needs, &EVERYTHING, &CLASS, &open);
     assert_eq!(yes, Ok(Counterexample::Yes(0)));
@@ -68,7 +80,7 @@ fn counterexamples_need_a_legal_state() {
 
 #[test]
 fn the_lowest_separating_object_is_told() {
-    let free = [1, 0, 0, 0];
+    let free = axioms_record([1, 0, 0], &[]);
     let first_in = record(&[3, 1], &[(0, 0)]);
     let yes = counterexample(&free, &EVERYTHING, &CLASS, &first_in);
     assert_eq!(yes, Ok(Counterexample::Yes(1)));

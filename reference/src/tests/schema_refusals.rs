@@ -1,6 +1,6 @@
 //! Refusals 1 and 2 and the schema's limits.
 
-use super::write::record;
+use super::write::axioms_record;
 use crate::records::schema;
 
 fn refusal(words: &[u16]) -> u16 {
@@ -8,7 +8,14 @@ fn refusal(words: &[u16]) -> u16 {
 }
 
 fn axiom_refusal(axiom: (u16, u16)) -> u16 {
-    refusal(&record(&[3, 2, 1, 1], &[axiom]))
+    refusal(&axioms_record([3, 2, 1], &[axiom]))
+}
+
+/// The refusal of a record that counts so many axioms and has these.
+fn counted_refusal(count: u16, axioms: &[(u16, u16)]) -> u16 {
+    let mut words = axioms_record([1, 0, 0], axioms);
+    words[3] = count;
+    refusal(&words)
 }
 
 #[test]
@@ -21,22 +28,30 @@ fn short_records() {
 
 #[test]
 fn sizes() {
-    assert_eq!(refusal(&[24, 8, 4, 0]), 0);
-    assert_eq!(refusal(&[25, 8, 4, 0]), 1);
-    assert_eq!(refusal(&[24, 9, 4, 0]), 1);
-    assert_eq!(refusal(&[24, 8, 5, 0]), 1);
-    assert_eq!(refusal(&[u16::MAX, 8, 4, 0]), 1);
+    let declaring = |sizes| refusal(&axioms_record(sizes, &[]));
+    assert_eq!(declaring([24, 8, 4]), 0);
+    assert_eq!(declaring([25, 8, 4]), 1);
+    assert_eq!(declaring([24, 9, 4]), 1);
+    assert_eq!(declaring([24, 8, 5]), 1);
+    assert_eq!(declaring([u16::MAX, 8, 4]), 1);
 }
 
 #[test]
 fn axiom_counts() {
     let axiom = (256, 0);
-    assert_eq!(refusal(&record(&[1, 0, 0, 96], &[axiom; 96])), 0);
-    assert_eq!(refusal(&record(&[1, 0, 0, 97], &[axiom; 97])), 1);
-    assert_eq!(refusal(&record(&[1, 0, 0, 2], &[axiom; 1])), 1);
-    assert_eq!(refusal(&record(&[1, 0, 0, 1], &[axiom; 2])), 1);
-    assert_eq!(refusal(&[1, 0, 0, 1, 256]), 1);
-    assert_eq!(refusal(&[1, 0, 0, 0, 0]), 1);
+    assert_eq!(counted_refusal(96, &[axiom; 96]), 0);
+    assert_eq!(counted_refusal(97, &[axiom; 97]), 1);
+    assert_eq!(counted_refusal(2, &[axiom; 1]), 1);
+    assert_eq!(counted_refusal(1, &[axiom; 2]), 1);
+}
+
+#[test]
+fn a_word_less_or_more() {
+    let mut words = axioms_record([1, 0, 0], &[(256, 0)]);
+    assert_eq!(refusal(&words), 0);
+    assert_eq!(refusal(&words[..words.len() - 1]), 1);
+    words.push(0);
+    assert_eq!(refusal(&words), 1);
 }
 
 #[test]
@@ -92,11 +107,11 @@ fn undeclared_right_words() {
 fn a_later_axiom_is_checked_too() {
     let mut axioms = [(256, 0); 96];
     axioms[95] = (256, 1);
-    assert_eq!(refusal(&record(&[1, 0, 0, 96], &axioms)), 2);
+    assert_eq!(refusal(&axioms_record([1, 0, 0], &axioms)), 2);
 }
 
 #[test]
 fn length_comes_before_axioms() {
-    assert_eq!(refusal(&[1, 0, 0, 2, 0, 0]), 1);
-    assert_eq!(refusal(&record(&[1, 0, 5, 1], &[(0, 0)])), 1);
+    assert_eq!(counted_refusal(2, &[(0, 0)]), 1);
+    assert_eq!(refusal(&axioms_record([1, 0, 5], &[(0, 0)])), 1);
 }

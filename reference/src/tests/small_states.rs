@@ -1,6 +1,6 @@
 //! The twelve small states (a) to (l), over straps and their wearers.
 
-use super::write::{fact, record, tokens_record};
+use super::write::{axioms_record, fact, record, tokens_record};
 use crate::entries::{legal, select, Legality};
 
 const STRAP: u16 = 0;
@@ -11,7 +11,7 @@ const UNTOUCHED: u16 = 7;
 const AXIOMS: [(u16, u16); 2] = [(4 * 256 + PERSON, 0), (5 * 256, PERSON * 256 + STRAP)];
 
 fn schema() -> Vec<u16> {
-    record(&[2, 1, 1, 2], &AXIOMS)
+    axioms_record([2, 1, 1], &AXIOMS)
 }
 
 fn state() -> Vec<u16> {
@@ -71,20 +71,22 @@ fn j_is_legal() {
 #[test]
 fn k_breaks_the_need() {
     let axioms = [AXIOMS[0], AXIOMS[1], (3 * 256 + STRAP, 0)];
-    let schema = record(&[2, 1, 1, 3], &axioms);
+    let schema = axioms_record([2, 1, 1], &axioms);
     assert_eq!(legal(&schema, &state()), Ok(Legality::Broken(2)));
 }
 
 #[test]
 fn l_is_legal_without_objects() {
-    assert_eq!(legal(&[0, 0, 0, 0], &[0, 0]), Ok(Legality::Legal));
-    assert_eq!(legal(&[2, 1, 0, 0], &[0, 0]), Ok(Legality::Legal));
+    for declared in [[0, 0, 0], [2, 1, 0]] {
+        let schema = axioms_record(declared, &[]);
+        assert_eq!(legal(&schema, &[0, 0]), Ok(Legality::Legal));
+    }
 }
 
 #[test]
 fn the_first_of_several_broken_axioms_is_told() {
     let needs = (3 * 256 + STRAP, 0);
-    let schema = record(&[2, 1, 1, 4], &[AXIOMS[0], needs, AXIOMS[1], needs]);
+    let schema = axioms_record([2, 1, 1], &[AXIOMS[0], needs, AXIOMS[1], needs]);
     assert_eq!(legal(&schema, &state()), Ok(Legality::Broken(1)));
 }
 
@@ -101,10 +103,10 @@ fn each_kind_of_axiom_is_heeded() {
         (5 * 256, 256),
     ];
     for axiom in broken {
-        let schema = record(&[2, 2, 0, 1], &[axiom]);
+        let schema = axioms_record([2, 2, 0], &[axiom]);
         assert_eq!(legal(&schema, &state), Ok(Legality::Broken(0)), "{axiom:?}");
     }
     let kept = [(256, 0), (3 * 256, 0), (4 * 256, 1), (5 * 256 + 1, 256)];
-    let schema = record(&[2, 2, 0, 4], &kept);
+    let schema = axioms_record([2, 2, 0], &kept);
     assert_eq!(legal(&schema, &state), Ok(Legality::Legal));
 }

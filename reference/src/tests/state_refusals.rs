@@ -1,20 +1,20 @@
 //! Refusals 7 to 10 and the state's limits.
 
-use super::write::{fact, record};
+use super::write::{axioms_record, fact, record};
 use crate::entries::select;
 use crate::records::{schema, state};
 
 /// Two classes, one attribute, two constants.
-const SIZES: [u16; 4] = [2, 1, 2, 0];
+const SIZES: [u16; 3] = [2, 1, 2];
 
-fn refusal_under(sizes: &[u16; 4], words: &[u16]) -> u16 {
-    let schema = schema(sizes).expect("an alphabet without axioms");
+fn refusal_under(sizes: [u16; 3], words: &[u16]) -> u16 {
+    let schema = schema(&axioms_record(sizes, &[])).expect("an alphabet without axioms");
     state(words, &schema).err().unwrap_or(0)
 }
 
 /// The refusal of three objects with these facts.
 fn facts_refusal(facts: &[(u16, u16)]) -> u16 {
-    refusal_under(&SIZES, &record(&[3, facts.len() as u16], facts))
+    refusal_under(SIZES, &record(&[3, facts.len() as u16], facts))
 }
 
 /// As many facts as a state may have, over all that can be declared.
@@ -34,36 +34,37 @@ fn full_facts() -> Vec<(u16, u16)> {
 
 #[test]
 fn short_records() {
-    let none = [0, 0, 0, 0];
-    assert_eq!(refusal_under(&none, &[]), 7);
-    assert_eq!(refusal_under(&none, &[0]), 7);
-    assert_eq!(refusal_under(&none, &[0, 0]), 0);
-    assert_eq!(refusal_under(&none, &[0, 0, 0]), 7);
-    assert_eq!(refusal_under(&none, &[1, 1, 0]), 7);
+    let none = [0, 0, 0];
+    assert_eq!(refusal_under(none, &[]), 7);
+    assert_eq!(refusal_under(none, &[0]), 7);
+    assert_eq!(refusal_under(none, &[0, 0]), 0);
+    assert_eq!(refusal_under(none, &[0, 0, 0]), 7);
+    assert_eq!(refusal_under(none, &[1, 1, 0]), 7);
 }
 
 #[test]
 fn object_counts() {
-    let none = [0, 0, 0, 0];
-    assert_eq!(refusal_under(&none, &[480, 0]), 0);
-    assert_eq!(refusal_under(&none, &[481, 0]), 7);
-    assert_eq!(refusal_under(&none, &[u16::MAX, 0]), 7);
+    let none = [0, 0, 0];
+    assert_eq!(refusal_under(none, &[480, 0]), 0);
+    assert_eq!(refusal_under(none, &[481, 0]), 7);
+    assert_eq!(refusal_under(none, &[u16::MAX, 0]), 7);
 }
 
 #[test]
 fn fact_counts() {
-    let sizes = [24, 8, 4, 0];
+    let sizes = [24, 8, 4];
     let mut facts = full_facts();
     assert_eq!(facts.len(), 15_380);
     let words = record(&[480, 15_380], &facts);
     assert_eq!(words.len(), 30_762);
-    assert_eq!(refusal_under(&sizes, &words), 0);
+    assert_eq!(refusal_under(sizes, &words), 0);
     let mut lent = [0; 480];
     let everything = [1, 0, 2, 0];
-    assert_eq!(select(&sizes, &everything, &words, &mut lent), Ok(480));
+    let schema = axioms_record(sizes, &[]);
+    assert_eq!(select(&schema, &everything, &words, &mut lent), Ok(480));
     facts.insert(24 * 480, fact(24, 0, 0));
     let words = record(&[480, 15_381], &facts);
-    assert_eq!(refusal_under(&sizes, &words), 7);
+    assert_eq!(refusal_under(sizes, &words), 7);
 }
 
 #[test]
@@ -101,7 +102,7 @@ fn bad_facts() {
     for fact in bad {
         assert_eq!(facts_refusal(&[fact]), 8, "{fact:?}");
     }
-    assert_eq!(refusal_under(&[1, 0, 0, 0], &[0, 1, 0, 0]), 8);
+    assert_eq!(refusal_under([1, 0, 0], &[0, 1, 0, 0]), 8);
 }
 
 #[test]
@@ -130,14 +131,14 @@ fn constants() {
     assert_eq!(facts_refusal(&several), 10);
     assert_eq!(facts_refusal(&[fact(32, 1, 0), fact(33, 1, 0)]), 10);
     assert_eq!(facts_refusal(&[fact(32, 1, 0), fact(33, 0, 0)]), 0);
-    assert_eq!(refusal_under(&SIZES, &[0, 0]), 10);
+    assert_eq!(refusal_under(SIZES, &[0, 0]), 10);
 }
 
 #[test]
 fn layout_comes_before_facts() {
     let facts = [fact(36, 0, 0)];
-    assert_eq!(refusal_under(&SIZES, &record(&[3, 2], &facts)), 7);
-    assert_eq!(refusal_under(&SIZES, &record(&[481, 1], &facts)), 7);
+    assert_eq!(refusal_under(SIZES, &record(&[3, 2], &facts)), 7);
+    assert_eq!(refusal_under(SIZES, &record(&[481, 1], &facts)), 7);
 }
 
 #[test]

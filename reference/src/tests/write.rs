@@ -11,10 +11,17 @@ pub fn record(sizes: &[u16], pairs: &[(u16, u16)]) -> Vec<u16> {
 }
 
 pub fn schema(schema: &Schema) -> Vec<u16> {
-    let pairs: Vec<(u16, u16)> = schema.axioms.iter().map(axiom).collect();
-    let sizes = [schema.classes, schema.attributes, schema.constants];
-    let sizes = sizes.map(word);
-    record(&[sizes[0], sizes[1], sizes[2], word(pairs.len())], &pairs)
+    let axioms: Vec<(u16, u16)> = schema.axioms.iter().map(axiom).collect();
+    let declared = [schema.classes, schema.attributes, schema.constants];
+    axioms_record(declared.map(word), &axioms)
+}
+
+/// A schema record that declares so many classes, attributes and constants,
+/// from its axioms, which it counts.
+pub fn axioms_record(declared: [u16; 3], axioms: &[(u16, u16)]) -> Vec<u16> {
+    let [classes, attributes, constants] = declared;
+    let sizes = [classes, attributes, constants, word(axioms.len())];
+    record(&sizes, axioms)
 }
 
 fn axiom(axiom: &Axiom) -> (u16, u16) {
