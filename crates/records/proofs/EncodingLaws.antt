@@ -18,7 +18,7 @@ use Rattle.records.specs.ConceptRecord.{tokenOf, tokenAt}
 use Rattle.records.specs.StateRecord.{objects, kindAt, objectAt}
 use Rattle.records.specs.Shape.{misshapen}
 use Rattle.records.specs.ConceptRefusal.{isStep, stepAt, steps}
-use Rattle.records.specs.Encoding.{recordOf, Words, leftOf, rightOf, schemaRecord, axiomWords, stepsIn, conceptRecord, fact, leftWord, rightWord, stateRecord}
+use Rattle.records.specs.Encoding.{recordOf, Words, leftOf, rightOf, schemaSizes, schemaRecord, axiomWords, stepsIn, conceptRecord, fact, leftWord, rightWord, stateRecord}
 use Rattle.records.specs.Helpers.InRange.{AxiomInRange}
 use Rattle.records.proofs.General.FiniteLaws.{count-same}
 
@@ -82,7 +82,7 @@ module _ (classes attributes constants : ℕ) (l : List Words) where
   abbrev schemaWords : List ℕ
   schemaWords = schemaRecord classes attributes constants l
 
-  schema-sizes : Sizes schemaLayout (classes ∷ attributes ∷ constants ∷ length l ∷ []) (length l)
+  schema-sizes : Sizes schemaLayout (schemaSizes classes attributes constants (length l)) (length l)
   unfolding schemaLayout
   schema-sizes = record { many = refl; inside = omega arith; counts = refl }
 

@@ -24,9 +24,13 @@ leftOf e = e .0
 abbrev pub rightOf : Words → ℕ
 rightOf e = e .1
 
+-- the size words, for so many axioms
+abbrev pub schemaSizes : ℕ → ℕ → ℕ → ℕ → List ℕ
+schemaSizes classes attributes constants axioms = classes ∷ attributes ∷ constants ∷ axioms ∷ []
+
 unfoldable pub schemaRecord : ℕ → ℕ → ℕ → List Words → List ℕ
 schemaRecord classes attributes constants axioms =
-    recordOf leftOf rightOf (classes ∷ attributes ∷ constants ∷ length axioms ∷ []) axioms
+    recordOf leftOf rightOf (schemaSizes classes attributes constants (length axioms)) axioms
 
 -- the words that `axiomOf` of SchemaRecord reads
 abbrev pub axiomWords : Axiom → Words
