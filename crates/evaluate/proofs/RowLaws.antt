@@ -44,7 +44,7 @@ module _ {f : ℕ → ℕ} {base : ℕ} {ws : List ℕ} where
 
 -- Rows.
 
-row-word : (ws : List ℕ) (t o : ℕ) → rowBit ws t o ≡ bit (getD ws (t * setWords + o / wordBits) 0) (o % wordBits)
+pub row-word : (ws : List ℕ) (t o : ℕ) → rowBit ws t o ≡ bit (getD ws (t * setWords + o / wordBits) 0) (o % wordBits)
 unfolding bitAt
 row-word ws t o =
     ap₂ (λ (i k : ℕ). bit (getD ws i 0) k) (omega arith) (omega arith)

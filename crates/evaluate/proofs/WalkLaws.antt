@@ -4,7 +4,7 @@ use mathlib.Core.Bool.{Bool, true, false, So, true≢false}
 use mathlib.Core.List.{List}
 use mathlib.Core.Path.{_≡_, refl, sym, subst, _∙_}
 use native.Mathlib.Omega.{arith}
-use lib.ListN.{length, getD}
+use lib.ListN.{getD}
 use mir.Syntax.{w16}
 use mir.Val.{Fits}
 use Rattle.records.specs.declared.concept.Token.{Token}
@@ -20,11 +20,12 @@ use Rattle.records.proofs.PileLaws.{start-le}
 use Rattle.records.proofs.ReadingLaws.{ReadsStep, ReadsPath, path-reads, step-reads, path-next}
 use Rattle.index.proofs.KindLaws.{kinds-rise}
 use Rattle.evaluate.specs.declared.steps.Step.{Step}
-use Rattle.evaluate.specs.Rows.{Filled, Below}
+use Rattle.evaluate.specs.Rows.{Below}
 use Rattle.evaluate.specs.Steps.{along, stepOf, Followable, Origins}
 use Rattle.evaluate.specs.Places.{Landing, Walk}
 use Rattle.evaluate.specs.Selection.{Selection}
-use Rattle.evaluate.specs.Relation.{ownWord, Stepped, Related}
+use Rattle.evaluate.specs.Relation.{Diagonal, Stepped, Related}
+use Rattle.evaluate.specs.declared.relation.Bases.{Bases}
 use Rattle.evaluate.proofs.FactLaws.{objects-room, end-inside}
 use Rattle.evaluate.proofs.TokenLaws.{named, named-small, step-along}
 use Rattle.evaluate.proofs.StepLaws.{size-of}
@@ -119,7 +120,7 @@ module _ {w v landings : List ℕ} {at : ℕ} (z : Walk w v landings (suc at)) w
 
 -- The walk backward, for "reached".
 
-few-size : {w v landings : List ℕ} {e : ℕ} → Walk w v landings e → stateOf v .size ≤ objectPart
+pub few-size : {w v landings : List ℕ} {e : ℕ} → Walk w v landings e → stateOf v .size ≤ objectPart
 few-size {v = v} z = omega (arith, walk-room z, size-of v)
 
 pub reach-starts : {w v landings : List ℕ} {e n : ℕ} {set : List ℕ} → Walk w v landings e → n ≡ objects v → Below n set
@@ -153,33 +154,32 @@ reach-ends {v = v} {p = p} {set = set} z h r =
 
 -- The walk forward, for "common object".
 
-pub relate-on : {w v landings : List ℕ} {at m : ℕ} {x : Step} {block : ℕ} {us old ws vs : List ℕ} → Walk w v landings (suc at)
+pub relate-on : {w v landings : List ℕ} {at m : ℕ} {x : Step} {rel spare : ℕ} {us ws vs : List ℕ} → Walk w v landings (suc at)
     → So (stepAt w at)
     → m ≡ startOf w at 1
     → Followable v x
     → x ≡ stepOf (tokenAt w at)
-    → Related (stateOf v) (pathAt w m) block us old
-    → Stepped v x landings at old ws (entries stateLayout v) vs
-    → Related (stateOf v) (pathAt w (suc at)) block ws vs
-relate-on {w} {v} {landings} {at} {m} {x} {block} {us} {old} {ws} {vs} z h e ok q r o =
+    → Related (stateOf v) (pathAt w m) (record { rel = spare; spare = rel }) us ws
+    → Stepped v x landings at (record { rel = rel; spare = spare }) ws (entries stateLayout v) vs
+    → Related (stateOf v) (pathAt w (suc at)) (record { rel = rel; spare = spare }) us vs
+relate-on {w} {v} {landings} {at} {m} {x} {rel} {spare} {us} {ws} {vs} z h e ok q r o =
     let s = step-here z h in
     let is : x ≡ along (s .back) (s .attribute) = q ∙ s .is in
     let d = step-related (s .back) (s .attribute) (subst (Followable v) is ok) (s .lands)
-    (subst (λ (i : ℕ). Related (stateOf v) (pathAt w i) block us old) e r)
-    (subst (λ (y : Step). Stepped v y landings at old ws (entries stateLayout v) vs) is o)
+    (subst (λ (i : ℕ). Related (stateOf v) (pathAt w i) (record { rel = spare; spare = rel }) us ws) e r)
+    (subst (λ (y : Step). Stepped v y landings at (record { rel = rel; spare = spare }) ws (entries stateLayout v) vs) is o)
     in
-    subst (λ (p : Path). Related (stateOf v) p block ws vs) (sym (s .reads .0)) d
+    subst (λ (p : Path). Related (stateOf v) p (record { rel = rel; spare = spare }) us vs) (sym (s .reads .0)) d
 
-pub relate-starts : {w v landings : List ℕ} {at n block : ℕ} {ws vs : List ℕ} → Walk w v landings (suc at) → stepAt w at ≡ false
+pub relate-starts : {w v landings : List ℕ} {at n : ℕ} {b : Bases} {ws vs : List ℕ} → Walk w v landings (suc at) → stepAt w at ≡ false
     → n ≡ objects v
-    → Filled (ownWord block) 0 n ws vs
-    → Related (stateOf v) (pathAt w (suc at)) block ws vs
-relate-starts {v = v} {block = block} {ws = ws} {vs = vs} z h q f =
-    subst (λ (p : Path). Related (stateOf v) p block ws vs) (sym (walk-empty z h)) (empty-related (q ∙ size-of v) f)
+    → Diagonal (b .rel) n ws vs
+    → Related (stateOf v) (pathAt w (suc at)) b ws vs
+relate-starts {v = v} {b = b} {ws = ws} {vs = vs} z h q f =
+    subst (λ (p : Path). Related (stateOf v) p b ws vs) (sym (walk-empty z h)) (empty-related {b = b} (q ∙ size-of v) f)
 
-pub related-at : {w v landings : List ℕ} {e block : ℕ} {us ws vs : List ℕ} → Walk w v landings e → length ws ≡ length us
-    → Related (stateOf v) (pathAt w (suc (e - 1))) block ws vs
-    → Related (stateOf v) (pathAt w e) block us vs
-related-at {w} {v} {landings} {e} {block} {us} {ws} {vs} z q r =
-    subst (λ (i : ℕ). Related (stateOf v) (pathAt w i) block us vs) (sym (path-next w e (z .path)))
-    (record { size = r .size ∙ q; bits = r .bits })
+pub related-at : {w v landings : List ℕ} {e : ℕ} {b : Bases} {ws vs : List ℕ} → Walk w v landings e
+    → Related (stateOf v) (pathAt w (suc (e - 1))) b ws vs
+    → Related (stateOf v) (pathAt w e) b ws vs
+related-at {w} {v} {landings} {e} {b} {ws} {vs} z r =
+    subst (λ (i : ℕ). Related (stateOf v) (pathAt w i) b ws vs) (sym (path-next w e (z .path))) r

@@ -1,12 +1,20 @@
 -- What evaluation asks of its records.
-use Prim.Native.Nat.{ℕ}
-use mathlib.Core.Bool.{false}
+use Prim.Native.Nat.{ℕ, _*_, _^_, _≤_, _<_}
+use mathlib.Core.Bool.{Bool, true, false, So}
 use mathlib.Core.List.{List}
 use mathlib.Core.Path.{_≡_}
+use lib.ListN.{length}
+use Rattle.records.specs.declared.concept.Token.{Token}
+use Rattle.records.specs.declared.concept.Token.the-variants.{Class, Everything, Constant, Both, Empty, Forward, Backward, Reached, Common}
 use Rattle.records.specs.declared.schema.Signature.{Signature}
+use Rattle.records.specs.Finite.{any}
+use Rattle.records.specs.Layout.{conceptLayout, entries}
+use Rattle.records.specs.ConceptRecord.{tokenAt}
+use Rattle.records.specs.StateRecord.{objects}
 use Rattle.records.specs.ConceptRefusal.{refusal-3, refusal-4, refusal-5}
 use Rattle.records.specs.StateRefusal.{AcceptedState}
 use Rattle.index.specs.Index.{Indexes}
+use Rattle.evaluate.specs.Selection.{setWords}
 
 -- a concept that is turned back for nothing but its count of steps, an accepted state, and the state's index
 pub record Evaluable (s : Signature) (concept state seen : List ℕ) : Type 0 where
@@ -15,3 +23,22 @@ pub record Evaluable (s : Signature) (concept state seen : List ℕ) : Type 0 wh
   pub pile : refusal-5 concept ≡ false
   pub accepted : AcceptedState s state
   pub index : Indexes state seen
+
+abbrev pub isCommon : Token → Bool
+isCommon (Class A) = false
+isCommon Everything = false
+isCommon (Constant a) = false
+isCommon Both = false
+isCommon Empty = false
+isCommon (Forward P) = false
+isCommon (Backward P) = false
+isCommon Reached = false
+isCommon Common = true
+
+abbrev pub commonAt : List ℕ → ℕ → Bool
+commonAt w i = isCommon (tokenAt w i)
+
+-- rows of sets for three relations, where the concept asks for a common object
+pub record Relations (w v rows : List ℕ) : Type 0 where
+  pub room : So (any (entries conceptLayout w) (commonAt w)) → 3 * (objects v * setWords) ≤ length rows
+  pub few : length rows < 2 ^ 32

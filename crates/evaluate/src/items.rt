@@ -1,7 +1,7 @@
 // The evaluation of a concept record from the right: the item that ends at a place is read at the token before it, its last
 // operand ends there, and the operand before that one where the last one starts. So each token is evaluated once.
 // What a step of a path lands on is kept in the landings, at the place of its token: a path is walked when all its landing
-// concepts are evaluated, so that nothing but sets is held meanwhile.
+// concepts are evaluated, so that nothing but sets is held meanwhile. The rows are lent for the relations of common objects.
 use crate::layout::SET_WORDS;
 use crate::meeting::meeting;
 use crate::reaching::reaching;
@@ -35,10 +35,11 @@ pub fn concept(
     seen: &[u64; TABLE_WORDS],
     end: usize,
     landings: &mut [u64],
+    rows: &mut [u64],
 ) -> Found
-    requires { ⌜ Place (now words) (now state) (now seen) (now landings) end ⌝ }
+    requires { ⌜ Place (now words) (now state) (now seen) (now landings) (now rows) end ⌝ }
     requires { ⌜ HasConcept (now words) end ⌝ }
-    ensures { λ r. ⌜ ConceptAt (now (words .entry)) (now (state .entry)) end (now (landings .entry)) (now (landings .exit)) r ⌝ }
+    ensures { λ r. ⌜ ConceptAt (now (words .entry)) (now (state .entry)) end (now (landings .entry)) (now (landings .exit)) (now (rows .entry)) (now (rows .exit)) r ⌝ }
 {
     let at = end - 1;
     match token_at(words, at) {
@@ -54,9 +55,9 @@ pub fn concept(
             start: at,
             set: kind_set(seen, CONSTANT_KINDS + a),
         },
-        Token::Both => both(words, state, seen, at, landings),
-        Token::Reached => reached(words, state, seen, at, landings),
-        Token::Common => common(words, state, seen, at, landings),
+        Token::Both => both(words, state, seen, at, landings, rows),
+        Token::Reached => reached(words, state, seen, at, landings, rows),
+        Token::Common => common(words, state, seen, at, landings, rows),
         // A path's tokens end no concept.
         Token::Empty | Token::Forward(_) | Token::Backward(_) => Found {
             start: at,
@@ -72,14 +73,15 @@ fn both(
     seen: &[u64; TABLE_WORDS],
     at: usize,
     landings: &mut [u64],
+    rows: &mut [u64],
 ) -> Found
-    requires { ⌜ Place (now words) (now state) (now seen) (now landings) (suc at) ⌝ }
+    requires { ⌜ Place (now words) (now state) (now seen) (now landings) (now rows) (suc at) ⌝ }
     requires { ⌜ HasConcept (now words) (suc at) ⌝ }
     requires { ⌜ tokenAt (now words) at ≡ Both ⌝ }
-    ensures { λ r. ⌜ ConceptAt (now (words .entry)) (now (state .entry)) (suc at) (now (landings .entry)) (now (landings .exit)) r ⌝ }
+    ensures { λ r. ⌜ ConceptAt (now (words .entry)) (now (state .entry)) (suc at) (now (landings .entry)) (now (landings .exit)) (now (rows .entry)) (now (rows .exit)) r ⌝ }
 {
-    let last = concept(words, state, seen, at, landings);
-    let first = concept(words, state, seen, last.start, landings);
+    let last = concept(words, state, seen, at, landings, rows);
+    let first = concept(words, state, seen, last.start, landings, rows);
     let ps = first.set;
     let qs = last.set;
     Found {
@@ -95,13 +97,14 @@ fn reached(
     seen: &[u64; TABLE_WORDS],
     at: usize,
     landings: &mut [u64],
+    rows: &mut [u64],
 ) -> Found
-    requires { ⌜ Place (now words) (now state) (now seen) (now landings) (suc at) ⌝ }
+    requires { ⌜ Place (now words) (now state) (now seen) (now landings) (now rows) (suc at) ⌝ }
     requires { ⌜ HasConcept (now words) (suc at) ⌝ }
     requires { ⌜ tokenAt (now words) at ≡ Reached ⌝ }
-    ensures { λ r. ⌜ ConceptAt (now (words .entry)) (now (state .entry)) (suc at) (now (landings .entry)) (now (landings .exit)) r ⌝ }
+    ensures { λ r. ⌜ ConceptAt (now (words .entry)) (now (state .entry)) (suc at) (now (landings .entry)) (now (landings .exit)) (now (rows .entry)) (now (rows .exit)) r ⌝ }
 {
-    let start = path(words, state, seen, at, landings);
+    let start = path(words, state, seen, at, landings, rows);
     Found {
         start,
         set: reaching(words, state, landings, at),
@@ -115,17 +118,18 @@ fn common(
     seen: &[u64; TABLE_WORDS],
     at: usize,
     landings: &mut [u64],
+    rows: &mut [u64],
 ) -> Found
-    requires { ⌜ Place (now words) (now state) (now seen) (now landings) (suc at) ⌝ }
+    requires { ⌜ Place (now words) (now state) (now seen) (now landings) (now rows) (suc at) ⌝ }
     requires { ⌜ HasConcept (now words) (suc at) ⌝ }
     requires { ⌜ tokenAt (now words) at ≡ Common ⌝ }
-    ensures { λ r. ⌜ ConceptAt (now (words .entry)) (now (state .entry)) (suc at) (now (landings .entry)) (now (landings .exit)) r ⌝ }
+    ensures { λ r. ⌜ ConceptAt (now (words .entry)) (now (state .entry)) (suc at) (now (landings .entry)) (now (landings .exit)) (now (rows .entry)) (now (rows .exit)) r ⌝ }
 {
-    let middle = path(words, state, seen, at, landings);
-    let start = path(words, state, seen, middle, landings);
+    let middle = path(words, state, seen, at, landings, rows);
+    let start = path(words, state, seen, middle, landings, rows);
     Found {
         start,
-        set: meeting(words, state, landings, middle, at),
+        set: meeting(words, state, landings, middle, at, rows),
     }
 }
 
@@ -136,17 +140,18 @@ pub fn path(
     seen: &[u64; TABLE_WORDS],
     end: usize,
     landings: &mut [u64],
+    rows: &mut [u64],
 ) -> usize
-    requires { ⌜ Place (now words) (now state) (now seen) (now landings) end ⌝ }
+    requires { ⌜ Place (now words) (now state) (now seen) (now landings) (now rows) end ⌝ }
     requires { ⌜ HasPath (now words) end ⌝ }
-    ensures { λ r. ⌜ PathAt (now (words .entry)) (now (state .entry)) end (now (landings .entry)) (now (landings .exit)) r ⌝ }
+    ensures { λ r. ⌜ PathAt (now (words .entry)) (now (state .entry)) end (now (landings .entry)) (now (landings .exit)) (now (rows .entry)) (now (rows .exit)) r ⌝ }
 {
     let at = end - 1;
     if is_step(token_at(words, at)) {
-        let landing = concept(words, state, seen, at, landings);
+        let landing = concept(words, state, seen, at, landings, rows);
         let set = landing.set;
         put(landings, at, &set);
-        path(words, state, seen, landing.start, landings)
+        path(words, state, seen, landing.start, landings, rows)
     } else {
         at
     }

@@ -1,55 +1,69 @@
-// The relation of a path from a block of 64 origins: a word for each target, with a bit for each origin that leads there.
-// So a relation has as many words as there are objects, and a step goes from one list of words to another.
+// The relation of a path: a row for each target that there is, the set of the origins that lead there. The rows of several
+// relations stand in one lent list, and a step goes from the rows of one to those of another.
+use crate::layout::SET_WORDS;
 use crate::steps::Step;
 use crate::steps::end_at;
 use crate::steps::step_at;
-use index::bits::WORD_BITS;
 use index::bits::has;
+use index::bits::insert;
 use index::kinds::first_of_kind;
 use records::concept::is_step;
 use records::concept::token_at;
 use records::reading::start_of;
 use records::state::OBJECT_PART;
 use records::state::objects;
-ghost use Prim.Native.Nat.{_≤_, _<_, _^_};
+ghost use Prim.Native.Nat.{_+_, _*_, _≤_, _<_, _^_};
 ghost use mathlib.Core.Path.{_≡_};
 ghost use lib.ListN.{length};
-ghost use Rattle.records.specs.Layout.{stateLayout, entries, maxTokens};
+ghost use Rattle.records.specs.Layout.{stateLayout, entries, objectPart, maxTokens};
 ghost use Rattle.records.specs.StateRecord.{stateOf, objects as objectsOf, kindAt};
 ghost use Rattle.records.specs.Helpers.Reading.{pathAt};
+ghost use Rattle.evaluate.specs.Selection.{setWords};
 ghost use Rattle.evaluate.specs.Steps.{Followable, originAt, targetAt};
 ghost use Rattle.evaluate.specs.Rows.{Filled};
-ghost use Rattle.evaluate.specs.Relation.{ownWord, noWord, Followed, Stepped, Related};
+ghost use Rattle.evaluate.specs.Relation.{noWord, Diagonal, Merged, Room, Followed, Stepped, Related};
 ghost use Rattle.evaluate.specs.Places.{Walk};
 
-// The word of object `t` with the bit of itself, where it is of the block.
-fn own(t: usize, block: usize) -> u64
-    ensures { λ r. ⌜ r ≡ ownWord block t ⌝ }
+// Where the rows of a relation begin, and those of a spare one.
+pub struct Bases {
+    pub rel: usize,
+    pub spare: usize,
+}
+
+// `n` words from `base` on become 0.
+fn clear(rows: &mut [u64], base: usize, n: usize)
+    requires { ⌜ base + n ≤ length (now rows) ⌝ }
+    ensures { λ _. ⌜ Filled noWord base n (now (rows .entry)) (now (rows .exit)) ⌝ }
 {
-    if t / WORD_BITS == block {
-        1 << (t % WORD_BITS)
-    } else {
-        0
+    for i in 0..n {
+        let k = base + i;
+        rows[k] = 0;
     }
 }
 
-// Each object below `n` to itself.
-fn identity(rel: &mut [u64], n: usize, block: usize)
-    requires { ⌜ n ≤ length (now rel) ⌝ }
-    ensures { λ _. ⌜ Filled (ownWord block) 0 n (now (rel .entry)) (now (rel .exit)) ⌝ }
+// Each object below `n` to itself, in the rows from `base` on.
+fn identity(rows: &mut [u64], base: usize, n: usize)
+    requires { ⌜ base * setWords + n * setWords ≤ length (now rows) ⌝ }
+    requires { ⌜ length (now rows) < 2 ^ 32 ⌝ }
+    requires { ⌜ n ≤ objectPart ⌝ }
+    ensures { λ _. ⌜ Diagonal base n (now (rows .entry)) (now (rows .exit)) ⌝ }
 {
+    clear(rows, base * SET_WORDS, n * SET_WORDS);
     for t in 0..n {
-        rel[t] = own(t, block);
+        insert(rows, (base + t) * OBJECT_PART + t);
     }
 }
 
-// No origin leads to an object below `n`.
-fn clear(rel: &mut [u64], n: usize)
-    requires { ⌜ n ≤ length (now rel) ⌝ }
-    ensures { λ _. ⌜ Filled noWord 0 n (now (rel .entry)) (now (rel .exit)) ⌝ }
+// Puts row `s` into row `r`.
+fn merge(rows: &mut [u64], r: usize, s: usize)
+    requires { ⌜ r * setWords + setWords ≤ length (now rows) ⌝ }
+    requires { ⌜ s * setWords + setWords ≤ length (now rows) ⌝ }
+    ensures { λ _. ⌜ Merged (now (rows .entry)) r s (now (rows .exit)) ⌝ }
 {
-    for t in 0..n {
-        rel[t] = 0;
+    for j in 0..SET_WORDS {
+        let k = s * SET_WORDS + j;
+        let i = r * SET_WORDS + j;
+        rows[i] = rows[i] | rows[k];
     }
 }
 
@@ -59,69 +73,62 @@ fn follow(
     step: Step,
     landings: &[u64],
     at: usize,
-    old: &[u64],
-    rel: &mut [u64],
+    rows: &mut [u64],
+    bases: Bases,
     i: usize,
 )
     requires { ⌜ i < 2 ^ 16 ⌝ }
     requires { ⌜ at < maxTokens ⌝ }
     requires { ⌜ kindAt (now state) i ≡ step .kind ⌝ }
-    requires { ⌜ targetAt (now state) step i < length (now rel) ⌝ }
-    requires { ⌜ originAt (now state) step i < length (now old) ⌝ }
-    ensures { λ _. ⌜ Followed (now (state .entry)) step (now (landings .entry)) at (now (old .entry)) (now (rel .entry)) i (now (rel .exit)) ⌝ }
+    requires { ⌜ targetAt (now state) step i < objectsOf (now state) ⌝ }
+    requires { ⌜ originAt (now state) step i < objectsOf (now state) ⌝ }
+    requires { ⌜ Room (objectsOf (now state)) bases (now rows) ⌝ }
+    ensures { λ _. ⌜ Followed (now (state .entry)) step (now (landings .entry)) at bases (now (rows .entry)) i (now (rows .exit)) ⌝ }
 {
     let target = end_at(state, !step.backward, i);
     if has(landings, at * OBJECT_PART + target) {
         let origin = end_at(state, step.backward, i);
-        rel[target] = rel[target] | old[origin];
+        merge(rows, bases.rel + target, bases.spare + origin);
     }
 }
 
-// The step added at the path's end: from the path's relation to that of the path with the step.
-fn advance(state: &[u16], step: Step, landings: &[u64], at: usize, old: &[u64], rel: &mut [u64])
+// The step added at the path's end: from the path's relation, in the spare rows, to that of the path with the step.
+fn advance(state: &[u16], step: Step, landings: &[u64], at: usize, rows: &mut [u64], bases: Bases)
     requires { ⌜ Followable (now state) step ⌝ }
     requires { ⌜ at < maxTokens ⌝ }
-    requires { ⌜ objectsOf (now state) ≤ length (now old) ⌝ }
-    requires { ⌜ objectsOf (now state) ≤ length (now rel) ⌝ }
-    ensures { λ _. ⌜ Stepped (now (state .entry)) step (now (landings .entry)) at (now (old .entry)) (now (rel .entry)) (entries stateLayout (now (state .entry))) (now (rel .exit)) ⌝ }
+    requires { ⌜ Room (objectsOf (now state)) bases (now rows) ⌝ }
+    ensures { λ _. ⌜ Stepped (now (state .entry)) step (now (landings .entry)) at bases (now (rows .entry)) (entries stateLayout (now (state .entry))) (now (rows .exit)) ⌝ }
 {
-    clear(rel, objects(state));
+    clear(rows, bases.rel * SET_WORDS, objects(state) * SET_WORDS);
     let from = first_of_kind(state, step.kind);
     let to = first_of_kind(state, step.kind + 1);
     for i in from..to {
-        follow(state, step, landings, at, old, rel, i);
+        follow(state, step, landings, at, rows, bases, i);
     }
 }
 
-// The relation of the path that ends at `end`. A path with a step goes by the spare words.
+// The relation of the path that ends at `end`. A path with a step goes by the spare rows.
 pub fn relate(
     words: &[u16],
     state: &[u16],
     landings: &[u64],
     end: usize,
-    block: usize,
-    rel: &mut [u64],
-    spare: &mut [u64],
+    rows: &mut [u64],
+    bases: Bases,
 )
     requires { ⌜ Walk (now words) (now state) (now landings) end ⌝ }
-    requires { ⌜ objectsOf (now state) ≤ length (now rel) ⌝ }
-    requires { ⌜ objectsOf (now state) ≤ length (now spare) ⌝ }
-    ensures { λ _. ⌜ Related (stateOf (now (state .entry))) (pathAt (now (words .entry)) end) block (now (rel .entry)) (now (rel .exit)) ⌝ }
-    ensures { λ _. ⌜ length (now (spare .exit)) ≡ length (now (spare .entry)) ⌝ }
+    requires { ⌜ Room (objectsOf (now state)) bases (now rows) ⌝ }
+    ensures { λ _. ⌜ Related (stateOf (now (state .entry))) (pathAt (now (words .entry)) end) bases (now (rows .entry)) (now (rows .exit)) ⌝ }
 {
     let at = end - 1;
     if is_step(token_at(words, at)) {
-        relate(
-            words,
-            state,
-            landings,
-            start_of(words, at),
-            block,
-            spare,
-            rel,
-        );
-        advance(state, step_at(words, at), landings, at, spare, rel);
+        let before = Bases {
+            rel: bases.spare,
+            spare: bases.rel,
+        };
+        relate(words, state, landings, start_of(words, at), rows, before);
+        advance(state, step_at(words, at), landings, at, rows, bases);
     } else {
-        identity(rel, objects(state), block);
+        identity(rows, bases.rel, objects(state));
     }
 }

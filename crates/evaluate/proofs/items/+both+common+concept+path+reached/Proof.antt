@@ -40,50 +40,50 @@ use Rattle.records.proofs.state.objects.Reads as objects-reads
 use Rattle.evaluate.proofs.items.+both+common+concept+path+reached.{statement}
 use Rattle.evaluate.proofs.items.+both+common+concept+path+reached.Tie.{close}
 
-abbrev μ-both : Measures 4 both-kinds.ps ℕ
+abbrev μ-both : Measures 5 both-kinds.ps ℕ
 μ-both κs a = suc (2 * a .1 .1 .1 .0)
 
-abbrev μ-common : Measures 4 common-kinds.ps ℕ
+abbrev μ-common : Measures 5 common-kinds.ps ℕ
 μ-common κs a = suc (2 * a .1 .1 .1 .0)
 
-abbrev μ-concept : Measures 4 concept-kinds.ps ℕ
+abbrev μ-concept : Measures 5 concept-kinds.ps ℕ
 μ-concept κs a = 2 * a .1 .1 .1 .0
 
-abbrev μ-path : Measures 4 path-kinds.ps ℕ
+abbrev μ-path : Measures 5 path-kinds.ps ℕ
 μ-path κs a = 2 * a .1 .1 .1 .0
 
-abbrev μ-reached : Measures 4 reached-kinds.ps ℕ
+abbrev μ-reached : Measures 5 reached-kinds.ps ℕ
 μ-reached κs a = suc (2 * a .1 .1 .1 .0)
 
-abbrev both-at : ℕ → In 4 both-kinds.ps
-both-at t = and 4 both-kinds.ps (is 4 both-kinds.ps μ-both t) both.Pre
+abbrev both-at : ℕ → In 5 both-kinds.ps
+both-at t = and 5 both-kinds.ps (is 5 both-kinds.ps μ-both t) both.Pre
 
-abbrev both-below : ℕ → In 4 both-kinds.ps
-both-below t = and 4 both-kinds.ps (falls 4 both-kinds.ps _<_ μ-both t) both.Pre
+abbrev both-below : ℕ → In 5 both-kinds.ps
+both-below t = and 5 both-kinds.ps (falls 5 both-kinds.ps _<_ μ-both t) both.Pre
 
-abbrev common-at : ℕ → In 4 common-kinds.ps
-common-at t = and 4 common-kinds.ps (is 4 common-kinds.ps μ-common t) common.Pre
+abbrev common-at : ℕ → In 5 common-kinds.ps
+common-at t = and 5 common-kinds.ps (is 5 common-kinds.ps μ-common t) common.Pre
 
-abbrev common-below : ℕ → In 4 common-kinds.ps
-common-below t = and 4 common-kinds.ps (falls 4 common-kinds.ps _<_ μ-common t) common.Pre
+abbrev common-below : ℕ → In 5 common-kinds.ps
+common-below t = and 5 common-kinds.ps (falls 5 common-kinds.ps _<_ μ-common t) common.Pre
 
-abbrev concept-at : ℕ → In 4 concept-kinds.ps
-concept-at t = and 4 concept-kinds.ps (is 4 concept-kinds.ps μ-concept t) concept.Pre
+abbrev concept-at : ℕ → In 5 concept-kinds.ps
+concept-at t = and 5 concept-kinds.ps (is 5 concept-kinds.ps μ-concept t) concept.Pre
 
-abbrev concept-below : ℕ → In 4 concept-kinds.ps
-concept-below t = and 4 concept-kinds.ps (falls 4 concept-kinds.ps _<_ μ-concept t) concept.Pre
+abbrev concept-below : ℕ → In 5 concept-kinds.ps
+concept-below t = and 5 concept-kinds.ps (falls 5 concept-kinds.ps _<_ μ-concept t) concept.Pre
 
-abbrev path-at : ℕ → In 4 path-kinds.ps
-path-at t = and 4 path-kinds.ps (is 4 path-kinds.ps μ-path t) path.Pre
+abbrev path-at : ℕ → In 5 path-kinds.ps
+path-at t = and 5 path-kinds.ps (is 5 path-kinds.ps μ-path t) path.Pre
 
-abbrev path-below : ℕ → In 4 path-kinds.ps
-path-below t = and 4 path-kinds.ps (falls 4 path-kinds.ps _<_ μ-path t) path.Pre
+abbrev path-below : ℕ → In 5 path-kinds.ps
+path-below t = and 5 path-kinds.ps (falls 5 path-kinds.ps _<_ μ-path t) path.Pre
 
-abbrev reached-at : ℕ → In 4 reached-kinds.ps
-reached-at t = and 4 reached-kinds.ps (is 4 reached-kinds.ps μ-reached t) reached.Pre
+abbrev reached-at : ℕ → In 5 reached-kinds.ps
+reached-at t = and 5 reached-kinds.ps (is 5 reached-kinds.ps μ-reached t) reached.Pre
 
-abbrev reached-below : ℕ → In 4 reached-kinds.ps
-reached-below t = and 4 reached-kinds.ps (falls 4 reached-kinds.ps _<_ μ-reached t) reached.Pre
+abbrev reached-below : ℕ → In 5 reached-kinds.ps
+reached-below t = and 5 reached-kinds.ps (falls 5 reached-kinds.ps _<_ μ-reached t) reached.Pre
 
 abbrev reached-calls : ℕ → reached-lts.Claims
 reached-calls t = (path-below t, path.Post, reaching-reads.Asked, reaching-reads.Learnt)
@@ -102,15 +102,16 @@ both-calls t = (concept-below t, concept.Post, shared-row-reads.Asked, shared-ro
 
 both-concept-requires : (t : ℕ) → both-lts.Need-concept-requires (both-calls t) (both-at t) both.Post
 both-concept-requires t c κs =
-    let s = c .before .before .before .before in
+    let s = c .before .before .before .before .before .before in
     let r = concept-reads (s .args .words .now) (s .args .at) _ (s .pre .1 .1 .0) (s .pre .1 .1 .1) in
-    (omega (arith, s .pre .0), (place-earlier (s .pre .1 .0) refl (omega arith), r .2))
+    (omega (arith, s .pre .0), (place-earlier (s .pre .1 .0) refl refl (omega arith), r .2))
 
 both-concept-requires-2 : (t : ℕ) → both-lts.Need-concept-requires-2 (both-calls t) (both-at t) both.Post
 both-concept-requires-2 t c κs =
-    let s = c .before .before .before .before .before .before .before .before in
+    let s = c .before .before .before .before .before .before .before .before .before .before .before .before .before in
     let r = concept-reads (s .args .words .now) (s .args .at) _ (s .pre .1 .1 .0) (s .pre .1 .1 .1) in
-    (omega (arith, s .pre .0, c .before .before .before .concept .ensures .start, start-le (s .args .words .now) (s .args .at) 1), (place-below (s .pre .1 .0) (c .before .before .before .concept .ensures .landings .size) (c .before .before .before .concept .ensures .start), rw (c .before .before .before .concept .ensures .start) (r .3)))
+    let e = c .before .before .before .before .before .before .concept .ensures in
+    (omega (arith, s .pre .0, e .start, start-le (s .args .words .now) (s .args .at) 1), (place-below (s .pre .1 .0) (e .landings .size) (e .size) (e .start), rw (e .start) (r .3)))
 
 both-slice-aggregate-shared-row : (t : ℕ) → both-lts.Need-slice-aggregate-shared-row (both-calls t) (both-at t) both.Post
 both-slice-aggregate-shared-row t c = search needs
@@ -119,56 +120,65 @@ both-slice-aggregate-shared-row-2 : (t : ℕ) → both-lts.Need-slice-aggregate-
 both-slice-aggregate-shared-row-2 t c = search needs
 
 both-shared-row-requires : (t : ℕ) → both-lts.Need-shared-row-requires (both-calls t) (both-at t) both.Post
-both-shared-row-requires t c κs = (omega (arith, c .before .before .before .before .before .before .concept2 .ensures .selection .size), omega (arith, c .before .before .before .before .before .before .before .before .before .before .concept .ensures .selection .size))
+both-shared-row-requires t c κs = (omega (arith, c .before .before .before .before .before .before .before .before .concept2 .ensures .selection .size), omega (arith, c .before .before .before .before .before .before .before .before .before .before .before .before .before .before .before .concept .ensures .selection .size))
 
 both-same-length : (t : ℕ) → both-lts.Need-same-length (both-calls t) (both-at t) both.Post
 both-same-length t c = search needs
 
+both-same-length-2 : (t : ℕ) → both-lts.Need-same-length-2 (both-calls t) (both-at t) both.Post
+both-same-length-2 t c = search needs
+
 both-returns : (t : ℕ) → both-lts.Need-returns (both-calls t) (both-at t) both.Post
 both-returns t c =
-    let s = c .before .before .before .before .before .before .before .before .before .before .before .before .before .before .before .before in
+    let s = c .before .before .before .before .before .before .before .before .before .before .before .before .before .before .before .before .before .before .before .before .before .before .before in
     let r = concept-reads (s .args .words .now) (s .args .at) _ (s .pre .1 .1 .0) (s .pre .1 .1 .1) in
-    both-selected (s .pre .1 .0) (s .pre .1 .1 .1) r (c .before .before .before .before .before .before .before .before .before .before .before .concept .ensures) (c .before .before .before .before .before .before .before .concept2 .ensures) (c .shared-row .ensures)
+    both-selected (s .pre .1 .0) (s .pre .1 .1 .1) r (c .before .before .before .before .before .before .before .before .before .before .before .before .before .before .before .before .concept .ensures) (c .before .before .before .before .before .before .before .before .before .concept2 .ensures) (c .shared-row .ensures)
 
 common-path-requires : (t : ℕ) → common-lts.Need-path-requires (common-calls t) (common-at t) common.Post
 common-path-requires t c κs =
-    let s = c .before .before .before .before in
+    let s = c .before .before .before .before .before .before in
     let r = concept-reads (s .args .words .now) (s .args .at) _ (s .pre .1 .1 .0) (s .pre .1 .1 .1) in
-    (omega (arith, s .pre .0), (place-earlier (s .pre .1 .0) refl (omega arith), r .2))
+    (omega (arith, s .pre .0), (place-earlier (s .pre .1 .0) refl refl (omega arith), r .2))
 
 common-path-requires-2 : (t : ℕ) → common-lts.Need-path-requires-2 (common-calls t) (common-at t) common.Post
 common-path-requires-2 t c κs =
-    let s = c .before .before .before .before .before .before .before .before in
+    let s = c .before .before .before .before .before .before .before .before .before .before .before .before .before in
     let r = concept-reads (s .args .words .now) (s .args .at) _ (s .pre .1 .1 .0) (s .pre .1 .1 .1) in
-    (omega (arith, s .pre .0, c .before .before .before .path .ensures .start, start-le (s .args .words .now) (s .args .at) 1), (place-below (s .pre .1 .0) (c .before .before .before .path .ensures .landings .size) (c .before .before .before .path .ensures .start), rw (c .before .before .before .path .ensures .start) (r .3)))
+    let e = c .before .before .before .before .before .before .path .ensures in
+    (omega (arith, s .pre .0, e .start, start-le (s .args .words .now) (s .args .at) 1), (place-below (s .pre .1 .0) (e .landings .size) (e .size) (e .start), rw (e .start) (r .3)))
 
 common-meeting-requires : (t : ℕ) → common-lts.Need-meeting-requires (common-calls t) (common-at t) common.Post
 common-meeting-requires t c κs =
-    let s = c .before .before .before .before .before .before .before .before .before .before .before .before in
+    let s = c .before .before .before .before .before .before .before .before .before .before .before .before .before .before .before .before .before .before .before .before in
     let r = concept-reads (s .args .words .now) (s .args .at) _ (s .pre .1 .1 .0) (s .pre .1 .1 .1) in
-    let m = c .before .before .before .before .before .before .before .path .ensures in
-    (place-walk (s .pre .1 .0) (omega (arith, m .start, start-le (s .args .words .now) (s .args .at) 1)) (rw (m .start) (r .3)) (c .before .before .before .path2 .ensures .landings .landed), last-walk (s .pre .1 .0) (r .2) m (c .before .before .before .path2 .ensures))
+    let m = c .before .before .before .before .before .before .before .before .before .before .before .before .before .path .ensures in
+    let k = c .before .before .before .before .before .before .path2 .ensures in
+    let z = s .pre .1 .0 in
+    (place-walk z (omega (arith, m .start, start-le (s .args .words .now) (s .args .at) 1)) (rw (m .start) (r .3)) (k .landings .landed), (last-walk z (r .2) m k, (omega (arith, k .size, m .size, z .relations (s .args .at) (omega arith) (s .pre .1 .1 .1)), omega (arith, k .size, m .size, z .few))))
 
 common-same-length : (t : ℕ) → common-lts.Need-same-length (common-calls t) (common-at t) common.Post
 common-same-length t c = search needs
 
+common-same-length-2 : (t : ℕ) → common-lts.Need-same-length-2 (common-calls t) (common-at t) common.Post
+common-same-length-2 t c = search needs
+
 common-returns : (t : ℕ) → common-lts.Need-returns (common-calls t) (common-at t) common.Post
 common-returns t c =
-    let s = c .before .before .before .before .before .before .before .before .before .before .before .before .before in
+    let s = c .before .before .before .before .before .before .before .before .before .before .before .before .before .before .before .before .before .before .before .before .before .before .before in
     let r = concept-reads (s .args .words .now) (s .args .at) _ (s .pre .1 .1 .0) (s .pre .1 .1 .1) in
-    common-selected (s .pre .1 .0) (s .pre .1 .1 .1) r (c .before .before .before .before .before .before .before .before .path .ensures) (c .before .before .before .before .path2 .ensures) (c .meeting .ensures)
+    common-selected (s .pre .1 .0) (s .pre .1 .1 .1) r (c .before .before .before .before .before .before .before .before .before .before .before .before .before .before .before .before .path .ensures) (c .before .before .before .before .before .before .before .before .before .path2 .ensures) (c .before .before .meeting .ensures)
 
 concept-sub-at : (t : ℕ) → concept-lts.Need-sub-at (concept-calls t) (concept-at t) concept.Post
-concept-sub-at t c = concept-some (c .before .before .before .args .words .now) _ (c .before .before .before .pre .1 .1)
+concept-sub-at t c = concept-some (c .before .before .before .before .args .words .now) _ (c .before .before .before .before .pre .1 .1)
 
 concept-token-at-requires : (t : ℕ) → concept-lts.Need-token-at-requires (concept-calls t) (concept-at t) concept.Post
-concept-token-at-requires t c κs = omega (arith, place-few (c .before .before .before .pre .1 .0))
+concept-token-at-requires t c κs = omega (arith, place-few (c .before .before .before .before .pre .1 .0))
 
 concept-enum-known-a : (t : ℕ) → concept-lts.Need-enum-known-a (concept-calls t) (concept-at t) concept.Post
 concept-enum-known-a t c = search needs
 
 concept-kind-set-requires : (t : ℕ) → concept-lts.Need-kind-set-requires (concept-calls t) (concept-at t) concept.Post
-concept-kind-set-requires t c κs = c .before .before .before .before .before .before .before .pre .1 .0 .evaluable .index .size
+concept-kind-set-requires t c κs = c .before .before .before .before .before .before .before .before .pre .1 .0 .evaluable .index .size
 
 concept-enum-told : (t : ℕ) → concept-lts.Need-enum-told (concept-calls t) (concept-at t) concept.Post
 concept-enum-told t c = search needs
@@ -177,25 +187,25 @@ concept-objects-requires : (t : ℕ) → concept-lts.Need-objects-requires (conc
 concept-objects-requires t c κs = search needs
 
 concept-everything-requires : (t : ℕ) → concept-lts.Need-everything-requires (concept-calls t) (concept-at t) concept.Post
-concept-everything-requires t c κs = place-room (c .before .before .before .before .before .before .before .pre .1 .0) (c .objects .ensures .value)
+concept-everything-requires t c κs = place-room (c .before .before .before .before .before .before .before .before .pre .1 .0) (c .objects .ensures .value)
 
 concept-enum-known-a-2 : (t : ℕ) → concept-lts.Need-enum-known-a-2 (concept-calls t) (concept-at t) concept.Post
 concept-enum-known-a-2 t c = search needs
 
 concept-add-kind-set : (t : ℕ) → concept-lts.Need-add-kind-set (concept-calls t) (concept-at t) concept.Post
-concept-add-kind-set t c = omega (arith, named-small _ (c .before .before .before .before .before .before .shared-slice-known .given) _ (sym (c .before .before .before .token-at .ensures) ∙ c .before .a2 .given .1))
+concept-add-kind-set t c = omega (arith, named-small _ (c .before .before .before .before .before .before .before .shared-slice-known .given) _ (sym (c .before .before .before .token-at .ensures) ∙ c .before .a2 .given .1))
 
 concept-kind-set-requires-2 : (t : ℕ) → concept-lts.Need-kind-set-requires-2 (concept-calls t) (concept-at t) concept.Post
-concept-kind-set-requires-2 t c κs = c .before .before .before .before .before .before .before .pre .1 .0 .evaluable .index .size
+concept-kind-set-requires-2 t c κs = c .before .before .before .before .before .before .before .before .pre .1 .0 .evaluable .index .size
 
 concept-enum-told-2 : (t : ℕ) → concept-lts.Need-enum-told-2 (concept-calls t) (concept-at t) concept.Post
 concept-enum-told-2 t c = search needs
 
 concept-both-requires : (t : ℕ) → concept-lts.Need-both-requires (concept-calls t) (concept-at t) concept.Post
 concept-both-requires t c κs =
-    let s = c .before .before .before .before .before .before .before in
+    let s = c .before .before .before .before .before .before .before .before .before in
     let h = s .pre .1 .1 in
-    let q = sym (c .before .before .before .token-at .ensures) ∙ c .before .enum-told2 .given .1 in
+    let q = sym (c .before .before .before .before .token-at .ensures) ∙ c .before .before .enum-told2 .given .1 in
     (omega (arith, s .pre .0, concept-next (s .args .words .now) _ h), (concept-place (s .pre .1 .0) h, (concept-suc (s .args .words .now) _ h, q)))
 
 concept-enum-told-3 : (t : ℕ) → concept-lts.Need-enum-told-3 (concept-calls t) (concept-at t) concept.Post
@@ -203,9 +213,9 @@ concept-enum-told-3 t c = search needs
 
 concept-reached-requires : (t : ℕ) → concept-lts.Need-reached-requires (concept-calls t) (concept-at t) concept.Post
 concept-reached-requires t c κs =
-    let s = c .before .before .before .before .before .before .before in
+    let s = c .before .before .before .before .before .before .before .before .before in
     let h = s .pre .1 .1 in
-    let q = sym (c .before .before .before .token-at .ensures) ∙ c .before .enum-told3 .given .1 in
+    let q = sym (c .before .before .before .before .token-at .ensures) ∙ c .before .before .enum-told3 .given .1 in
     (omega (arith, s .pre .0, concept-next (s .args .words .now) _ h), (concept-place (s .pre .1 .0) h, (concept-suc (s .args .words .now) _ h, q)))
 
 concept-enum-told-4 : (t : ℕ) → concept-lts.Need-enum-told-4 (concept-calls t) (concept-at t) concept.Post
@@ -213,28 +223,28 @@ concept-enum-told-4 t c = search needs
 
 concept-common-requires : (t : ℕ) → concept-lts.Need-common-requires (concept-calls t) (concept-at t) concept.Post
 concept-common-requires t c κs =
-    let s = c .before .before .before .before .before .before .before in
+    let s = c .before .before .before .before .before .before .before .before .before in
     let h = s .pre .1 .1 in
-    let q = sym (c .before .before .before .token-at .ensures) ∙ c .before .enum-told4 .given .1 in
+    let q = sym (c .before .before .before .before .token-at .ensures) ∙ c .before .before .enum-told4 .given .1 in
     (omega (arith, s .pre .0, concept-next (s .args .words .now) _ h), (concept-place (s .pre .1 .0) h, (concept-suc (s .args .words .now) _ h, q)))
 
 concept-returns : (t : ℕ) → concept-lts.Need-returns (concept-calls t) (concept-at t) concept.Post
 concept-returns t c =
-    let s = c .before .before .before .before .before .before .before .before in
+    let s = c .before .before .before .before .before .before .before .before .before in
     let h = s .pre .1 .1 in
     let q = sym (c .before .before .before .before .token-at .ensures) ∙ c .before .before .a .given .1 in
     concept-put (s .pre .1 .0) h (class-selected (concept-place (s .pre .1 .0) h) q (concept-token (s .args .words .now) _ h q) (c .kind-set .ensures))
 
 concept-returns-2 : (t : ℕ) → concept-lts.Need-returns-2 (concept-calls t) (concept-at t) concept.Post
 concept-returns-2 t c =
-    let s = c .before .before .before .before .before .before .before .before in
+    let s = c .before .before .before .before .before .before .before .before .before in
     let h = s .pre .1 .1 in
     let q = sym (c .before .before .before .before .token-at .ensures) ∙ c .before .before .enum-told .given .1 in
     concept-put (s .pre .1 .0) h (everything-selected (concept-place (s .pre .1 .0) h) q (concept-token (s .args .words .now) _ h q) (c .before .objects .ensures .value) (c .everything .ensures))
 
 concept-returns-3 : (t : ℕ) → concept-lts.Need-returns-3 (concept-calls t) (concept-at t) concept.Post
 concept-returns-3 t c =
-    let s = c .before .before .before .before .before .before .before .before in
+    let s = c .before .before .before .before .before .before .before .before .before in
     let h = s .pre .1 .1 in
     let q = sym (c .before .before .before .before .token-at .ensures) ∙ c .before .before .a2 .given .1 in
     concept-put (s .pre .1 .0) h (constant-selected (concept-place (s .pre .1 .0) h) q (concept-token (s .args .words .now) _ h q) (c .kind-set2 .ensures))
@@ -242,85 +252,100 @@ concept-returns-3 t c =
 concept-same-length : (t : ℕ) → concept-lts.Need-same-length (concept-calls t) (concept-at t) concept.Post
 concept-same-length t c = search needs
 
-concept-returns-4 : (t : ℕ) → concept-lts.Need-returns-4 (concept-calls t) (concept-at t) concept.Post
-concept-returns-4 t c = concept-put (c .before .before .before .before .before .before .before .before .before .before .pre .1 .0) (c .before .before .before .before .before .before .before .before .before .before .pre .1 .1) (c .before .before .both .ensures)
-
 concept-same-length-2 : (t : ℕ) → concept-lts.Need-same-length-2 (concept-calls t) (concept-at t) concept.Post
 concept-same-length-2 t c = search needs
 
-concept-returns-5 : (t : ℕ) → concept-lts.Need-returns-5 (concept-calls t) (concept-at t) concept.Post
-concept-returns-5 t c = concept-put (c .before .before .before .before .before .before .before .before .before .before .pre .1 .0) (c .before .before .before .before .before .before .before .before .before .before .pre .1 .1) (c .before .before .reached .ensures)
+concept-returns-4 : (t : ℕ) → concept-lts.Need-returns-4 (concept-calls t) (concept-at t) concept.Post
+concept-returns-4 t c = concept-put (c .before .before .before .before .before .before .before .before .before .before .before .before .before .before .pre .1 .0) (c .before .before .before .before .before .before .before .before .before .before .before .before .before .before .pre .1 .1) (c .before .before .before .before .both .ensures)
 
 concept-same-length-3 : (t : ℕ) → concept-lts.Need-same-length-3 (concept-calls t) (concept-at t) concept.Post
 concept-same-length-3 t c = search needs
 
+concept-same-length-4 : (t : ℕ) → concept-lts.Need-same-length-4 (concept-calls t) (concept-at t) concept.Post
+concept-same-length-4 t c = search needs
+
+concept-returns-5 : (t : ℕ) → concept-lts.Need-returns-5 (concept-calls t) (concept-at t) concept.Post
+concept-returns-5 t c = concept-put (c .before .before .before .before .before .before .before .before .before .before .before .before .before .before .pre .1 .0) (c .before .before .before .before .before .before .before .before .before .before .before .before .before .before .pre .1 .1) (c .before .before .before .before .reached .ensures)
+
+concept-same-length-5 : (t : ℕ) → concept-lts.Need-same-length-5 (concept-calls t) (concept-at t) concept.Post
+concept-same-length-5 t c = search needs
+
+concept-same-length-6 : (t : ℕ) → concept-lts.Need-same-length-6 (concept-calls t) (concept-at t) concept.Post
+concept-same-length-6 t c = search needs
+
 concept-returns-6 : (t : ℕ) → concept-lts.Need-returns-6 (concept-calls t) (concept-at t) concept.Post
-concept-returns-6 t c = concept-put (c .before .before .before .before .before .before .before .before .before .before .pre .1 .0) (c .before .before .before .before .before .before .before .before .before .before .pre .1 .1) (c .before .before .common .ensures)
+concept-returns-6 t c = concept-put (c .before .before .before .before .before .before .before .before .before .before .before .before .before .before .pre .1 .0) (c .before .before .before .before .before .before .before .before .before .before .before .before .before .before .pre .1 .1) (c .before .before .before .before .common .ensures)
 
 concept-returns-7 : (t : ℕ) → concept-lts.Need-returns-7 (concept-calls t) (concept-at t) concept.Post
-concept-returns-7 t c = absurd (concept-not-path (c .before .before .before .before .before .args .words .now) _ (c .before .before .before .before .before .pre .1 .1) (rw (← (c .before .token-at .ensures)) (c .match .keys7)))
+concept-returns-7 t c = absurd (concept-not-path (c .before .before .before .before .before .before .args .words .now) _ (c .before .before .before .before .before .before .pre .1 .1) (rw (← (c .before .token-at .ensures)) (c .match .keys7)))
 
 path-sub-at : (t : ℕ) → path-lts.Need-sub-at (path-calls t) (path-at t) path.Post
-path-sub-at t c = path-some (c .before .before .before .args .words .now) _ (c .before .before .before .pre .1 .1)
+path-sub-at t c = path-some (c .before .before .before .before .args .words .now) _ (c .before .before .before .before .pre .1 .1)
 
 path-token-at-requires : (t : ℕ) → path-lts.Need-token-at-requires (path-calls t) (path-at t) path.Post
-path-token-at-requires t c κs = omega (arith, place-few (c .before .before .before .pre .1 .0))
+path-token-at-requires t c κs = omega (arith, place-few (c .before .before .before .before .pre .1 .0))
 
 path-is-step-requires : (t : ℕ) → path-lts.Need-is-step-requires (path-calls t) (path-at t) path.Post
 path-is-step-requires t c κs = search needs
 
 path-concept-requires : (t : ℕ) → path-lts.Need-concept-requires (path-calls t) (path-at t) path.Post
 path-concept-requires t c κs =
-    let s = c .before .before .before .before .before .before .before in
-    let h : So (stepAt (s .args .words .now) (s .args .end - 1)) = rw (← (c .before .before .before .token-at .ensures), ← (c .before .before .is-step .ensures)) (c .before .if1 .taken) in
+    let s = c .before .before .before .before .before .before .before .before .before in
+    let h : So (stepAt (s .args .words .now) (s .args .end - 1)) = rw (← (c .before .before .before .before .token-at .ensures), ← (c .before .before .before .is-step .ensures)) (c .before .before .if1 .taken) in
     let p = path-place (s .pre .1 .0) (s .pre .1 .1) in
-    (omega (arith, s .pre .0, path-next (s .args .words .now) _ (s .pre .1 .1)), (place-earlier p refl (omega arith), step-read p (path-suc (s .args .words .now) _ (s .pre .1 .1)) h .1))
+    (omega (arith, s .pre .0, path-next (s .args .words .now) _ (s .pre .1 .1)), (place-earlier p refl refl (omega arith), step-read p (path-suc (s .args .words .now) _ (s .pre .1 .1)) h .1))
 
 path-put-requires : (t : ℕ) → path-lts.Need-put-requires (path-calls t) (path-at t) path.Post
-path-put-requires t c κs = (omega (arith, c .before .before .before .before .before .concept .ensures .landings .size, c .before .before .before .before .before .before .before .before .before .before .before .before .before .pre .1 .0 .room, place-few (c .before .before .before .before .before .before .before .before .before .before .before .before .before .pre .1 .0), path-next (c .before .before .before .before .before .before .before .before .before .before .before .before .before .args .words .now) _ (c .before .before .before .before .before .before .before .before .before .before .before .before .before .pre .1 .1)), c .before .before .before .before .before .concept .ensures .selection .size)
+path-put-requires t c κs = (omega (arith, c .before .before .before .before .before .before .before .concept .ensures .landings .size, c .before .before .before .before .before .before .before .before .before .before .before .before .before .before .before .before .before .pre .1 .0 .room, place-few (c .before .before .before .before .before .before .before .before .before .before .before .before .before .before .before .before .before .pre .1 .0), path-next (c .before .before .before .before .before .before .before .before .before .before .before .before .before .before .before .before .before .args .words .now) _ (c .before .before .before .before .before .before .before .before .before .before .before .before .before .before .before .before .before .pre .1 .1)), c .before .before .before .before .before .before .before .concept .ensures .selection .size)
 
 path-path-requires : (t : ℕ) → path-lts.Need-path-requires (path-calls t) (path-at t) path.Post
 path-path-requires t c κs =
-    let s = c .before .before .before .before .before .before .before .before .before .before .before .before .before .before .before .before .before in
-    let h : So (stepAt (s .args .words .now) (s .args .end - 1)) = rw (← (c .before .before .before .before .before .before .before .before .before .before .before .before .before .token-at .ensures), ← (c .before .before .before .before .before .before .before .before .before .before .before .before .is-step .ensures)) (c .before .before .before .before .before .before .before .before .before .before .before .if1 .taken) in
+    let s = c .before .before .before .before .before .before .before .before .before .before .before .before .before .before .before .before .before .before .before .before .before .before in
+    let h : So (stepAt (s .args .words .now) (s .args .end - 1)) = rw (← (c .before .before .before .before .before .before .before .before .before .before .before .before .before .before .before .before .before .token-at .ensures), ← (c .before .before .before .before .before .before .before .before .before .before .before .before .before .before .before .before .is-step .ensures)) (c .before .before .before .before .before .before .before .before .before .before .before .before .before .before .before .if1 .taken) in
     let p = path-place (s .pre .1 .0) (s .pre .1 .1) in
-    let e = c .before .before .before .before .before .before .before .before .before .concept .ensures in
-    (omega (arith, s .pre .0, path-next (s .args .words .now) _ (s .pre .1 .1), e .start, start-le (s .args .words .now) (s .args .end - 1) 1), (place-below p (c .before .before .before .put .ensures .size ∙ e .landings .size) (e .start), rw (e .start) (step-read p (path-suc (s .args .words .now) _ (s .pre .1 .1)) h .2)))
+    let e = c .before .before .before .before .before .before .before .before .before .before .before .before .concept .ensures in
+    (omega (arith, s .pre .0, path-next (s .args .words .now) _ (s .pre .1 .1), e .start, start-le (s .args .words .now) (s .args .end - 1) 1), (place-below p (c .before .before .before .before .put .ensures .size ∙ e .landings .size) (e .size) (e .start), rw (e .start) (step-read p (path-suc (s .args .words .now) _ (s .pre .1 .1)) h .2)))
 
 path-same-length : (t : ℕ) → path-lts.Need-same-length (path-calls t) (path-at t) path.Post
 path-same-length t c = search needs
 
+path-same-length-2 : (t : ℕ) → path-lts.Need-same-length-2 (path-calls t) (path-at t) path.Post
+path-same-length-2 t c = search needs
+
 path-returns : (t : ℕ) → path-lts.Need-returns (path-calls t) (path-at t) path.Post
 path-returns t c =
-    let s = c .before .before .before .before .before .before .before .before .before .before .before .before .before .before .before .before .before .before .before .before in
-    let h : So (stepAt (s .args .words .now) (s .args .end - 1)) = rw (← (c .before .before .before .before .before .before .before .before .before .before .before .before .before .before .before .before .token-at .ensures), ← (c .before .before .before .before .before .before .before .before .before .before .before .before .before .before .before .is-step .ensures)) (c .before .before .before .before .before .before .before .before .before .before .before .before .before .before .if1 .taken) in
-    path-put (s .pre .1 .0) (s .pre .1 .1) (step-landed (path-place (s .pre .1 .0) (s .pre .1 .1)) (path-suc (s .args .words .now) _ (s .pre .1 .1)) h (c .before .before .before .before .before .before .before .before .before .before .before .before .concept .ensures) (c .before .before .before .before .before .before .put .ensures) (c .before .before .path .ensures))
+    let s = c .before .before .before .before .before .before .before .before .before .before .before .before .before .before .before .before .before .before .before .before .before .before .before .before .before .before .before in
+    let h : So (stepAt (s .args .words .now) (s .args .end - 1)) = rw (← (c .before .before .before .before .before .before .before .before .before .before .before .before .before .before .before .before .before .before .before .before .before .before .token-at .ensures), ← (c .before .before .before .before .before .before .before .before .before .before .before .before .before .before .before .before .before .before .before .before .before .is-step .ensures)) (c .before .before .before .before .before .before .before .before .before .before .before .before .before .before .before .before .before .before .before .before .if1 .taken) in
+    path-put (s .pre .1 .0) (s .pre .1 .1) (step-landed (path-place (s .pre .1 .0) (s .pre .1 .1)) (path-suc (s .args .words .now) _ (s .pre .1 .1)) h (c .before .before .before .before .before .before .before .before .before .before .before .before .before .before .before .before .before .concept .ensures) (c .before .before .before .before .before .before .before .before .before .put .ensures) (c .before .before .before .before .path .ensures))
 
 path-returns-2 : (t : ℕ) → path-lts.Need-returns-2 (path-calls t) (path-at t) path.Post
 path-returns-2 t c =
-    let s = c .before .before .before .before .before .before in
+    let s = c .before .before .before .before .before .before .before in
     path-put (s .pre .1 .0) (s .pre .1 .1) (empty-landed (path-place (s .pre .1 .0) (s .pre .1 .1)) (path-suc (s .args .words .now) _ (s .pre .1 .1)) (rw (← (c .before .before .token-at .ensures), ← (c .before .is-step .ensures)) (c .if1 .left)))
 
 reached-path-requires : (t : ℕ) → reached-lts.Need-path-requires (reached-calls t) (reached-at t) reached.Post
 reached-path-requires t c κs =
-    let s = c .before .before .before .before in
+    let s = c .before .before .before .before .before .before in
     let r = concept-reads (s .args .words .now) (s .args .at) _ (s .pre .1 .1 .0) (s .pre .1 .1 .1) in
-    (omega (arith, s .pre .0), (place-earlier (s .pre .1 .0) refl (omega arith), r .2))
+    (omega (arith, s .pre .0), (place-earlier (s .pre .1 .0) refl refl (omega arith), r .2))
 
 reached-reaching-requires : (t : ℕ) → reached-lts.Need-reaching-requires (reached-calls t) (reached-at t) reached.Post
 reached-reaching-requires t c κs =
-    let s = c .before .before .before .before .before .before .before .before in
+    let s = c .before .before .before .before .before .before .before .before .before .before .before .before in
     let r = concept-reads (s .args .words .now) (s .args .at) _ (s .pre .1 .1 .0) (s .pre .1 .1 .1) in
-    place-walk (s .pre .1 .0) (omega arith) (r .2) (c .before .before .before .path .ensures .landings .landed)
+    place-walk (s .pre .1 .0) (omega arith) (r .2) (c .before .before .before .before .before .path .ensures .landings .landed)
 
 reached-same-length : (t : ℕ) → reached-lts.Need-same-length (reached-calls t) (reached-at t) reached.Post
 reached-same-length t c = search needs
 
+reached-same-length-2 : (t : ℕ) → reached-lts.Need-same-length-2 (reached-calls t) (reached-at t) reached.Post
+reached-same-length-2 t c = search needs
+
 reached-returns : (t : ℕ) → reached-lts.Need-returns (reached-calls t) (reached-at t) reached.Post
 reached-returns t c =
-    let s = c .before .before .before .before .before .before .before .before .before in
+    let s = c .before .before .before .before .before .before .before .before .before .before .before .before .before in
     let r = concept-reads (s .args .words .now) (s .args .at) _ (s .pre .1 .1 .0) (s .pre .1 .1 .1) in
-    reached-selected (s .pre .1 .0) (s .pre .1 .1 .1) r (c .before .before .before .before .path .ensures) (c .reaching .ensures)
+    reached-selected (s .pre .1 .0) (s .pre .1 .1 .1) r (c .before .before .before .before .before .before .path .ensures) (c .reaching .ensures)
 
 pub +both+common+concept+path+reached-spec : {M : Type 1} → statement M
 +both+common+concept+path+reached-spec =
@@ -333,6 +358,7 @@ pub +both+common+concept+path+reached-spec : {M : Type 1} → statement M
     (both-slice-aggregate-shared-row-2 t)
     (both-shared-row-requires t)
     (both-same-length t)
+    (both-same-length-2 t)
     (both-returns t))
     (λ t. common-lts.spec
     (path-below t, path.Post, meeting-reads.Asked, meeting-reads.Learnt)
@@ -342,6 +368,7 @@ pub +both+common+concept+path+reached-spec : {M : Type 1} → statement M
     (common-path-requires-2 t)
     (common-meeting-requires t)
     (common-same-length t)
+    (common-same-length-2 t)
     (common-returns t))
     (λ t. concept-lts.spec (concept-calls t)
     (concept-at t)
@@ -366,10 +393,13 @@ pub +both+common+concept+path+reached-spec : {M : Type 1} → statement M
     (concept-returns-2 t)
     (concept-returns-3 t)
     (concept-same-length t)
-    (concept-returns-4 t)
     (concept-same-length-2 t)
-    (concept-returns-5 t)
+    (concept-returns-4 t)
     (concept-same-length-3 t)
+    (concept-same-length-4 t)
+    (concept-returns-5 t)
+    (concept-same-length-5 t)
+    (concept-same-length-6 t)
     (concept-returns-6 t)
     (concept-returns-7 t))
     (λ t. path-lts.spec (path-calls t)
@@ -382,6 +412,7 @@ pub +both+common+concept+path+reached-spec : {M : Type 1} → statement M
     (path-put-requires t)
     (path-path-requires t)
     (path-same-length t)
+    (path-same-length-2 t)
     (path-returns t)
     (path-returns-2 t))
     λ t. reached-lts.spec
@@ -391,4 +422,5 @@ pub +both+common+concept+path+reached-spec : {M : Type 1} → statement M
     (reached-path-requires t)
     (reached-reaching-requires t)
     (reached-same-length t)
+    (reached-same-length-2 t)
     (reached-returns t)

@@ -1,5 +1,9 @@
--- A state of few objects needs few words.
-use Rattle.evaluate.proofs.WalkLaws.{walk-room}
+-- The first relation, the second beside it, and what they share.
+use Rattle.evaluate.proofs.WalkLaws.{few-size}
+use Rattle.evaluate.proofs.MeetLaws.{common-selection}
+use Rattle.evaluate.proofs.RelationLaws.{room-first, room-second}
+use Rattle.evaluate.proofs.StepLaws.{size-of}
+use mathlib.Core.Path.{_∙_}
 use native.Mathlib.Omega.{arith}
 use borrow.Author.Needs.{needs}
 use Rattle.evaluate.proofs.meeting.meeting.Statement.{statement}
@@ -8,48 +12,36 @@ use Rattle.evaluate.proofs.meeting.meeting.Tie as tie
 objects-requires : tie.Need-objects-requires
 objects-requires c κs = search needs
 
-slice-aggregate-meet : tie.Need-slice-aggregate-meet
-slice-aggregate-meet c = search needs
+mul-t10 : tie.Need-mul-t10
+mul-t10 c = omega (arith, c .objects .ensures .word)
 
-slice-aggregate-meet-2 : tie.Need-slice-aggregate-meet-2
-slice-aggregate-meet-2 c = search needs
+relate-requires : tie.Need-relate-requires
+relate-requires c κs = (c .before .before .before .before .before .before .pre .0, room-first (c .before .objects .ensures .value) (c .before .before .before .before .before .before .pre .1 .1 .0) (c .before .before .before .before .before .before .pre .1 .1 .1))
 
-slice-aggregate-meet-3 : tie.Need-slice-aggregate-meet-3
-slice-aggregate-meet-3 c = search needs
+mul-t10-2 : tie.Need-mul-t10-2
+mul-t10-2 c = omega (arith, c .before .before .before .before .objects .ensures .word)
 
-meet-requires : tie.Need-meet-requires
-meet-requires c κs = (c .before .before .before .before .before .before .before .before .pre .0, (c .before .before .before .before .before .before .before .before .pre .1, (omega (arith, c .before .before .before .before .objects .ensures .value, c .before .before .before .if1 .taken), (omega (arith, c .before .before .before .before .objects .ensures .value, c .before .before .before .if1 .taken), omega (arith, c .before .before .before .before .objects .ensures .value, c .before .before .before .if1 .taken)))))
+relate-requires-2 : tie.Need-relate-requires-2
+relate-requires-2 c κs = (c .before .before .before .before .before .before .before .before .before .before .pre .1 .0, room-second (c .before .before .before .before .before .objects .ensures .value) (omega (arith, c .before .before .before .before .before .before .before .before .before .before .pre .1 .1 .0, c .before .before .before .relate .ensures .size)) (omega (arith, c .before .before .before .before .before .before .before .before .before .before .pre .1 .1 .1, c .before .before .before .relate .ensures .size)))
+
+shared-requires : tie.Need-shared-requires
+shared-requires c κs = (omega (arith, c .before .before .before .before .before .before .before .before .before .objects .ensures .value, c .before .before .before .before .before .before .before .before .before .before .before .before .before .before .pre .1 .1 .0, c .before .before .before .before .before .before .before .relate .ensures .size, c .before .before .before .relate2 .ensures .size), omega (arith, c .before .before .before .before .before .before .before .before .before .objects .ensures .value, c .before .before .before .before .before .before .before .before .before .before .before .before .before .before .pre .1 .1 .0, c .before .before .before .before .before .before .before .relate .ensures .size, c .before .before .before .relate2 .ensures .size))
+
+same-length : tie.Need-same-length
+same-length c = search needs
 
 returns : tie.Need-returns
-returns c = search needs
-
-slice-aggregate-meet-4 : tie.Need-slice-aggregate-meet-4
-slice-aggregate-meet-4 c = search needs
-
-slice-aggregate-meet-5 : tie.Need-slice-aggregate-meet-5
-slice-aggregate-meet-5 c = search needs
-
-slice-aggregate-meet-6 : tie.Need-slice-aggregate-meet-6
-slice-aggregate-meet-6 c = search needs
-
-meet-requires-2 : tie.Need-meet-requires-2
-meet-requires-2 c κs = (c .before .before .before .before .before .before .before .before .pre .0, (c .before .before .before .before .before .before .before .before .pre .1, (omega (arith, walk-room (c .before .before .before .before .before .before .before .before .pre .0)), (omega (arith, walk-room (c .before .before .before .before .before .before .before .before .pre .0)), omega (arith, walk-room (c .before .before .before .before .before .before .before .before .pre .0))))))
-
-returns-2 : tie.Need-returns-2
-returns-2 c = search needs
+returns c = record { size = c .before .before .before .before .relate2 .ensures .size ∙ c .before .before .before .before .before .before .before .before .relate .ensures .size; selection = common-selection (c .before .before .before .before .before .before .before .before .before .before .objects .ensures .value ∙ size-of _) (few-size (c .before .before .before .before .before .before .before .before .before .before .before .before .before .before .before .pre .0)) (c .before .before .before .before .before .before .before .before .relate .ensures) (c .before .before .before .before .relate2 .ensures) (c .shared .ensures) }
 
 pub meeting-spec : {M : Type 1} → statement M
 meeting-spec =
     tie.close
     (tie.spec
     objects-requires
-    slice-aggregate-meet
-    slice-aggregate-meet-2
-    slice-aggregate-meet-3
-    meet-requires
-    returns
-    slice-aggregate-meet-4
-    slice-aggregate-meet-5
-    slice-aggregate-meet-6
-    meet-requires-2
-    returns-2)
+    mul-t10
+    relate-requires
+    mul-t10-2
+    relate-requires-2
+    shared-requires
+    same-length
+    returns)

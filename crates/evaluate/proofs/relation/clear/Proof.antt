@@ -10,28 +10,31 @@ use Rattle.evaluate.proofs.relation.clear.Statement.{statement}
 use Rattle.evaluate.proofs.relation.clear.Tie as tie
 
 abbrev Inv-loop : tie.InvT-loop
-Inv-loop rel₀ n t₀ rel t = (t ≤ n) × Filled noWord 0 t rel₀ rel
+Inv-loop rows₀ base n i₀ rows i = (i ≤ n) × Filled noWord base i rows₀ rows
 
 abbrev μ-loop : tie.MeasureT-loop
-μ-loop rel₀ n t₀ rel t = n - t
+μ-loop rows₀ base n i₀ rows i = n - i
 
 loop-holds : tie.Need-loop-holds Inv-loop μ-loop
 loop-holds c = (omega arith, filled-none)
 
-mul-rel : tie.Need-mul-rel Inv-loop μ-loop
-mul-rel c = search needs
+add-k : tie.Need-add-k Inv-loop μ-loop
+add-k c = search needs
 
-slice-write-rel : tie.Need-slice-write-rel Inv-loop μ-loop
-slice-write-rel c = search needs
+mul-rows : tie.Need-mul-rows Inv-loop μ-loop
+mul-rows c = search needs
 
-add-t : tie.Need-add-t Inv-loop μ-loop
-add-t c = search needs
+slice-write-rows : tie.Need-slice-write-rows Inv-loop μ-loop
+slice-write-rows c = search needs
+
+add-i : tie.Need-add-i Inv-loop μ-loop
+add-i c = search needs
 
 loop-less : tie.Need-loop-less Inv-loop μ-loop
 loop-less c = search needs
 
 loop-again : tie.Need-loop-again Inv-loop μ-loop
-loop-again c = (omega arith, filled-more (c .before .loop .inv .1) (omega arith) (omega arith) refl)
+loop-again c = (omega arith, filled-more (c .before .loop .inv .1) refl (omega arith) refl)
 
 same-length : tie.Need-same-length Inv-loop μ-loop
 same-length c = search needs
@@ -46,9 +49,10 @@ clear-spec =
     Inv-loop
     μ-loop
     loop-holds
-    mul-rel
-    slice-write-rel
-    add-t
+    add-k
+    mul-rows
+    slice-write-rows
+    add-i
     loop-less
     loop-again
     same-length

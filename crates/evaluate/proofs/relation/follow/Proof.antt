@@ -1,4 +1,4 @@
--- A fact that carries a word, and one that lands outside the set.
+-- A fact that carries a row, and one that lands outside the set.
 use Rattle.evaluate.proofs.RelationLaws.{followed-more, followed-outside}
 use mathlib.Core.Path.{sym, _∙_}
 use native.Mathlib.Omega.{arith}
@@ -21,29 +21,20 @@ has-requires c κs = search needs
 end-at-requires-2 : tie.Need-end-at-requires-2
 end-at-requires-2 c κs = search needs
 
-mul-rel : tie.Need-mul-rel
-mul-rel c = search needs
+add-merge : tie.Need-add-merge
+add-merge c = omega (arith, c .before .before .before .before .before .end-at .ensures, c .before .before .before .before .before .before .before .before .before .before .pre .1 .1 .1 .0, c .before .before .before .before .before .before .before .before .before .before .pre .1 .1 .1 .1 .1 .rel)
 
-slice-read-rel : tie.Need-slice-read-rel
-slice-read-rel c = search needs
+add-merge-2 : tie.Need-add-merge-2
+add-merge-2 c = omega (arith, c .before .before .before .end-at2 .ensures, c .before .before .before .before .before .before .before .before .before .before .before .pre .1 .1 .1 .1 .0, c .before .before .before .before .before .before .before .before .before .before .before .pre .1 .1 .1 .1 .1 .spare)
 
-mul-rel-2 : tie.Need-mul-rel-2
-mul-rel-2 c = search needs
-
-shared-slice-read-rel : tie.Need-shared-slice-read-rel
-shared-slice-read-rel c = search needs
-
-mul-rel-3 : tie.Need-mul-rel-3
-mul-rel-3 c = search needs
-
-slice-write-rel : tie.Need-slice-write-rel
-slice-write-rel c = search needs
+merge-requires : tie.Need-merge-requires
+merge-requires c κs = (omega (arith, c .before .before .before .before .before .before .end-at .ensures, c .before .before .before .before .before .before .before .before .before .before .before .pre .1 .1 .1 .0, c .before .before .before .before .before .before .before .before .before .before .before .pre .1 .1 .1 .1 .1 .rel), omega (arith, c .before .before .before .end-at2 .ensures, c .before .before .before .before .before .before .before .before .before .before .before .pre .1 .1 .1 .1 .0, c .before .before .before .before .before .before .before .before .before .before .before .pre .1 .1 .1 .1 .1 .spare))
 
 same-length : tie.Need-same-length
 same-length c = search needs
 
 returns : tie.Need-returns
-returns c = followed-more (c .before .before .before .before .before .before .before .before .before .before .before .pre .1 .1 .0) (c .before .before .before .before .before .end-at .ensures) (c .before .before .end-at2 .ensures) (omega (arith, c .before .before .before .before .before .end-at .ensures)) (sym (c .before .before .before .before .has .ensures) ∙ c .before .before .before .if1 .taken)
+returns c = followed-more (c .before .before .before .before .before .before .before .before .before .before .before .before .before .before .pre .1 .1 .0) (c .before .before .before .before .before .before .before .before .before .end-at .ensures) (c .before .before .before .before .before .before .end-at2 .ensures) (sym (c .before .before .before .before .before .before .before .before .has .ensures) ∙ c .before .before .before .before .before .before .before .if1 .taken) (c .before .before .merge .ensures)
 
 returns-2 : tie.Need-returns-2
 returns-2 c = followed-outside (c .before .before .end-at .ensures) (sym (c .before .has .ensures) ∙ c .if1 .left)
@@ -57,12 +48,9 @@ follow-spec =
     add-has
     has-requires
     end-at-requires-2
-    mul-rel
-    slice-read-rel
-    mul-rel-2
-    shared-slice-read-rel
-    mul-rel-3
-    slice-write-rel
+    add-merge
+    add-merge-2
+    merge-requires
     same-length
     returns
     returns-2)

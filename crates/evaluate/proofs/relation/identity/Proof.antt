@@ -1,7 +1,5 @@
--- The objects passed have their own bit (Filled).
-use Rattle.evaluate.proofs.RowLaws.{filled-none, filled-more, filled-all}
-use Rattle.evaluate.specs.Relation.{ownWord}
-use Rattle.evaluate.specs.Rows.{Filled}
+-- The objects passed lead to themselves, in rows that were cleared (Marking).
+use Rattle.evaluate.proofs.RelationLaws.{Marking, marking-none, marking-more, marking-all}
 use Prim.Native.Nat.{_≤_, _-_}
 use native.Mathlib.Omega.{arith}
 use borrow.Author.Needs.{needs}
@@ -9,22 +7,34 @@ use Rattle.evaluate.proofs.relation.identity.Statement.{statement}
 use Rattle.evaluate.proofs.relation.identity.Tie as tie
 
 abbrev Inv-loop : tie.InvT-loop
-Inv-loop rel₀ n block t₀ rel t = (t ≤ n) × Filled (ownWord block) 0 t rel₀ rel
+Inv-loop rows₀ base n t₀ rows t = (t ≤ n) × Marking base n t rows₀ rows
 
 abbrev μ-loop : tie.MeasureT-loop
-μ-loop rel₀ n block t₀ rel t = n - t
+μ-loop rows₀ base n t₀ rows t = n - t
+
+mul-clear : tie.Need-mul-clear Inv-loop μ-loop
+mul-clear c = search needs
+
+mul-clear-2 : tie.Need-mul-clear-2 Inv-loop μ-loop
+mul-clear-2 c = search needs
+
+clear-requires : tie.Need-clear-requires Inv-loop μ-loop
+clear-requires c κs = search needs
 
 loop-holds : tie.Need-loop-holds Inv-loop μ-loop
-loop-holds c = (omega arith, filled-none)
+loop-holds c = (omega arith, marking-none (c .before .before .clear .ensures))
 
-own-requires : tie.Need-own-requires Inv-loop μ-loop
-own-requires c κs = search needs
+add-insert : tie.Need-add-insert Inv-loop μ-loop
+add-insert c = search needs
 
-mul-rel : tie.Need-mul-rel Inv-loop μ-loop
-mul-rel c = search needs
+mul-insert : tie.Need-mul-insert Inv-loop μ-loop
+mul-insert c = omega (arith, c .before .before .before .before .before .before .before .before .pre .0, c .before .before .before .before .before .before .before .before .pre .1 .0)
 
-slice-write-rel : tie.Need-slice-write-rel Inv-loop μ-loop
-slice-write-rel c = search needs
+add-insert-2 : tie.Need-add-insert-2 Inv-loop μ-loop
+add-insert-2 c = omega (arith, c .before .before .before .before .before .before .before .before .pre .0, c .before .before .before .before .before .before .before .before .pre .1 .0)
+
+insert-requires : tie.Need-insert-requires Inv-loop μ-loop
+insert-requires c κs = omega (arith, c .before .before .before .before .before .before .before .before .pre .0, c .before .before .loop .inv .1 .size, c .before .before .before .before .before .clear .ensures .size, c .before .before .before .before .before .before .before .before .pre .1 .1)
 
 add-t : tie.Need-add-t Inv-loop μ-loop
 add-t c = search needs
@@ -33,13 +43,13 @@ loop-less : tie.Need-loop-less Inv-loop μ-loop
 loop-less c = search needs
 
 loop-again : tie.Need-loop-again Inv-loop μ-loop
-loop-again c = (omega arith, filled-more (c .before .before .loop .inv .1) (omega arith) (omega arith) (c .own .ensures))
+loop-again c = (omega arith, marking-more (c .before .before .before .before .before .loop .inv .1) (c .before .before .before .before .loop-test .taken) (c .before .before .before .before .before .before .before .before .before .before .before .pre .1 .1) (c .before .before .insert .ensures))
 
 same-length : tie.Need-same-length Inv-loop μ-loop
 same-length c = search needs
 
 returns : tie.Need-returns Inv-loop μ-loop
-returns c = filled-all (c .before .loop .inv .1) (c .before .loop .inv .0) (c .loop-test .left)
+returns c = marking-all (c .before .before .before .before .clear .ensures) (c .before .loop .inv .1) (c .loop-test .left)
 
 pub identity-spec : {M : Type 1} → statement M
 identity-spec =
@@ -47,10 +57,14 @@ identity-spec =
     (tie.spec
     Inv-loop
     μ-loop
+    mul-clear
+    mul-clear-2
+    clear-requires
     loop-holds
-    own-requires
-    mul-rel
-    slice-write-rel
+    add-insert
+    mul-insert
+    add-insert-2
+    insert-requires
     add-t
     loop-less
     loop-again
