@@ -41,7 +41,7 @@ extern "C" {
 #define BIKUVOA_VERSION_PATCH 0
 #define BIKUVOA_VERSION (BIKUVOA_VERSION_MAJOR * 10000 + BIKUVOA_VERSION_MINOR * 100 + BIKUVOA_VERSION_PATCH)
 
-/* The stack to give a thread for a call. Measured: of the shapes that tests/entries.c tries, the deepest takes about 1,160 KB
+/* The stack to give a thread for a call. Measured: of the shapes that tests/entries.c tries, the deepest takes about 280 KB
  * (bikuvoa_decide, a query of 64 tokens with 16 steps nested in each other), and that test fails if one takes more than
  * this. */
 #define BIKUVOA_STACK_BYTES (2 * 1024 * 1024)
