@@ -1,9 +1,11 @@
 -- Lists in a row: what their entries are, that they ascend where each list has bounds of its own, and how many entries there are.
-use Prim.Native.Nat.{ℕ, zero, suc, _*_, _≤_, _<_}
+use Prim.Native.Nat.{ℕ, zero, suc, _+_, _*_, _≤_, _<_}
+use native.Mathlib.Nat.{add-zero}
+use native.Mathlib.Numerals.{add-one}
 use native.Mathlib.Omega.{arith}
-use mathlib.Core.List.{List}
+use mathlib.Core.List.{List, _++_}
 use mathlib.Core.Logic.{⊎-elim}
-use mathlib.Core.Path.{_≡_, refl}
+use mathlib.Core.Path.{_≡_, refl, ap, ap₂}
 use lib.ListN.{length, length-append}
 use Rattle.chase.specs.Targets.{sum}
 use Rattle.chase.specs.Written.{gather}
@@ -42,6 +44,29 @@ module _ (f : ℕ → List ℕ) where
 
   pub gather-bound : (n b : ℕ) → ((i : ℕ) → length (f i) ≤ b) → length (gather n f) ≤ n * b
   gather-bound n b h = omega (arith, gather-length n, sum-le n (λ i. length (f i)) (λ i. b) h, sum-same n b)
+
+  -- one list more, and more lists
+  pub gather-more : (n : ℕ) → gather (n + 1) f ≡ gather n f ++ f n
+  unfolding gather
+  gather-more n = rw add-one
+
+  pub gather-grows : (i j : ℕ) → length (gather i f) ≤ length (gather (i + j) f)
+  gather-grows i zero = omega (arith, ap (λ (n : ℕ). length (gather n f)) (add-zero i))
+  gather-grows i (suc j) =
+      let q : i + suc j ≡ i + j + 1 = omega arith in
+      omega (
+        arith,
+        gather-grows i j,
+        ap (λ (n : ℕ). length (gather n f)) q,
+        ap length (gather-more (i + j)),
+        length-append (gather (i + j) f) (f (i + j)),
+      )
+
+-- the same lists
+pub gather-each : (f g : ℕ → List ℕ) → ((i : ℕ) → f i ≡ g i) → (n : ℕ) → gather n f ≡ gather n g
+unfolding gather
+gather-each f g h zero = refl
+gather-each f g h (suc n) = ap₂ _++_ (gather-each f g h n) (h n)
 
 -- rows of rows
 pub gather-rows : (m n : ℕ) (f : ℕ → ℕ → List ℕ) (g : ℕ → ℕ → ℕ) → ((i j : ℕ) → length (f i j) ≤ g i j)

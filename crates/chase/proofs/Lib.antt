@@ -1,6 +1,7 @@
 -- Why the decision is right.
 -- Tests, numbers, lists and loops.
 pub mod LoopLaws
+pub mod TurnLaws
 pub mod ListLaws
 pub mod ListingLaws
 -- The theory: what a finished chase decides.

@@ -1,31 +1,16 @@
--- A list that is filled from its start, and the model's start and clash in the code's terms.
-use Prim.Native.Nat.{ℕ, zero, suc, _+_, _≤_, _<_}
+-- The model's start and clash in the code's terms.
+use Prim.Native.Nat.{ℕ, zero, suc, _+_}
 use native.Mathlib.Nat.{zero-add}
-use native.Mathlib.Numerals.{add-one}
 use native.Mathlib.Omega.{arith}
 use mathlib.Core.List.{List, [], _∷_, _++_}
 use mathlib.Core.Path.{_≡_, refl, sym, ap, ap₂, _∙_}
-use lib.ListN.{length, set, take, replicate}
-use lib.Seq.{take-all, take-suc-set}
+use lib.ListN.{replicate}
+use Rattle.records.proofs.General.Filling.{listed}
 use Rattle.chase.specs.Task.{Task, nodes}
 use Rattle.records.specs.Helpers.Steps.{conceptSteps}
 use Rattle.chase.specs.Primary.{Prime, repOf, numbersFrom, begin, primary, clash}
 use Rattle.primary.specs.Formed.{prime}
 use Rattle.primary.specs.Clash.{clashesIn}
-
--- f 0, f 1, .. (n numbers)
-module _ (f : ℕ → ℕ) where
-  abbrev pub listed : ℕ → List ℕ
-  listed zero = []
-  listed (suc n) = listed n ++ (f n ∷ [])
-
-  pub listed-more : (l : List ℕ) (i v : ℕ) → i < length l → take i l ≡ listed i → v ≡ f i → take (i + 1) (set l i v) ≡ listed (i + 1)
-  listed-more l i v h e k =
-      ap (λ (j : ℕ). take j (set l i v)) (add-one i) ∙ take-suc-set l i v h ∙ ap₂ (λ (m : List ℕ) (u : ℕ). m ++ (u ∷ [])) e k
-      ∙ sym (ap listed (add-one i))
-
-  pub listed-all : (l : List ℕ) (i : ℕ) → length l ≤ i → take i l ≡ listed i → l ≡ listed i
-  listed-all l i h e = sym (take-all i l h) ∙ e
 
 numbers-snoc : (k n : ℕ) → numbersFrom k (suc n) ≡ numbersFrom k n ++ ((k + n) ∷ [])
 numbers-snoc k zero = ap (λ (v : ℕ). v ∷ []) (omega arith)
@@ -37,14 +22,6 @@ pub listed-numbers : (n : ℕ) → listed (λ i. i) n ≡ numbersFrom 0 n
 listed-numbers zero = refl
 listed-numbers (suc n) =
     ap₂ (λ (m : List ℕ) (v : ℕ). m ++ (v ∷ [])) (listed-numbers n) (sym (zero-add n)) ∙ sym (numbers-snoc 0 n)
-
-replicate-snoc : (n v : ℕ) → replicate (suc n) v ≡ replicate n v ++ (v ∷ [])
-replicate-snoc zero v = refl
-replicate-snoc (suc n) v = ap (λ (m : List ℕ). v ∷ m) (replicate-snoc n v)
-
-pub listed-zeros : (n : ℕ) → listed (λ i. 0) n ≡ replicate n 0
-listed-zeros zero = refl
-listed-zeros (suc n) = ap (λ (m : List ℕ). m ++ (0 ∷ [])) (listed-zeros n) ∙ sym (replicate-snoc n 0)
 
 -- for callers: the start of a task, and its clash
 pub begin-is : (t : Task) (r s : List ℕ) (n : ℕ) → n ≡ nodes t → r ≡ numbersFrom 0 n → s ≡ replicate n 0 → prime r s ≡ begin t

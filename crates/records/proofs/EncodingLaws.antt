@@ -18,7 +18,7 @@ use Rattle.records.specs.ConceptRecord.{tokenOf, tokenAt}
 use Rattle.records.specs.StateRecord.{objects, kindAt, objectAt}
 use Rattle.records.specs.Shape.{misshapen}
 use Rattle.records.specs.ConceptRefusal.{isStep, stepAt, steps}
-use Rattle.records.specs.Encoding.{recordOf, Words, leftOf, rightOf, schemaSizes, schemaRecord, axiomWords, stepsIn, conceptRecord, fact, leftWord, rightWord, stateRecord}
+use Rattle.records.specs.Encoding.{recordOf, Words, leftOf, rightOf, schemaSizes, schemaRecord, axiomWords, stepsIn, conceptSizes, conceptRecord, fact, leftWord, rightWord, stateSizes, stateRecord}
 use Rattle.records.specs.Helpers.InRange.{AxiomInRange}
 use Rattle.records.proofs.General.FiniteLaws.{count-same}
 
@@ -122,7 +122,7 @@ axiom-read (Relates P A B) h =
 
 -- The concept.
 module _ (l : List Words) where
-  concept-sizes : Sizes conceptLayout (length l ∷ stepsIn l ∷ []) (length l)
+  concept-sizes : Sizes conceptLayout (conceptSizes (stepsIn l) (length l)) (length l)
   unfolding conceptLayout
   concept-sizes = record { many = refl; inside = omega arith; counts = refl }
 
@@ -174,7 +174,7 @@ unfolding lengthFor maxStateWords
 state-fits n h = omega arith
 
 module _ (n : ℕ) (l : List ℕ) where
-  state-sizes : Sizes stateLayout (n ∷ length l ∷ []) (length l)
+  state-sizes : Sizes stateLayout (stateSizes n (length l)) (length l)
   unfolding stateLayout
   state-sizes = record { many = refl; inside = omega arith; counts = refl }
 

@@ -8,7 +8,7 @@ use lib.Seq.{take-at, drop-at, drop-drop, drop-set-lt}
 use borrow.Rule.Slice.PartAt.{part-to-end}
 use borrow.Rule.Slice.PartMut.{midOf, putMid}
 use Rattle.records.specs.Layout.{stateLayout, lengthFor}
-use Rattle.records.specs.Encoding.{recordOf, leftWord, rightWord, stateRecord}
+use Rattle.records.specs.Encoding.{recordOf, leftWord, rightWord, stateSizes, stateRecord}
 use Rattle.records.proofs.EncodingLaws.{state-words}
 
 -- the words from place a to the end, lent and given back as ys
@@ -46,7 +46,7 @@ sized lent x y = set (set lent 0 x) 1 y
 pub sized-length : (lent : List ℕ) (x y : ℕ) → length (sized lent x y) ≡ length lent
 sized-length lent x y = length-set (set lent 0 x) 1 y ∙ length-set lent 0 x
 
-sized-front : (lent : List ℕ) (x y : ℕ) → 2 ≤ length lent → take 2 (sized lent x y) ≡ x ∷ y ∷ []
+sized-front : (lent : List ℕ) (x y : ℕ) → 2 ≤ length lent → take 2 (sized lent x y) ≡ stateSizes x y
 sized-front [] x y h = absurd (omega arith)
 sized-front (a ∷ []) x y h = absurd (omega arith)
 sized-front (a ∷ b ∷ lent) x y h = refl
@@ -64,6 +64,6 @@ pub write-all : (n : ℕ) (l lent : List ℕ) (x y : ℕ) (part : List ℕ) → 
     → putMid 2 (length (sized lent x y) - 2) (sized lent x y) part ≡ stateRecord n l ++ drop (2 + 2 * length l) lent
 unfolding stateRecord
 write-all n l lent x y part h p q r =
-    record-back leftWord rightWord (n ∷ length l ∷ []) l lent (sized lent x y) part 2
-    (sized-front lent x y (omega (arith, state-words (length l))) ∙ ap₂ (λ (a b : ℕ). a ∷ b ∷ []) p q)
+    record-back leftWord rightWord (stateSizes n (length l)) l lent (sized lent x y) part 2
+    (sized-front lent x y (omega (arith, state-words (length l))) ∙ ap₂ stateSizes p q)
     (sized-rest lent x y) r

@@ -45,8 +45,12 @@ unfoldable pub stepsIn : List Words → ℕ
 stepsIn tokens =
     count (length tokens) λ i. isStep (tokenOf (leftOf (getD tokens i (0, 0))) (rightOf (getD tokens i (0, 0))))
 
+-- the size words, for so many tokens
+abbrev pub conceptSizes : ℕ → ℕ → List ℕ
+conceptSizes steps tokens = tokens ∷ steps ∷ []
+
 unfoldable pub conceptRecord : List Words → List ℕ
-conceptRecord tokens = recordOf leftOf rightOf (length tokens ∷ stepsIn tokens ∷ []) tokens
+conceptRecord tokens = recordOf leftOf rightOf (conceptSizes (stepsIn tokens) (length tokens)) tokens
 
 -- A fact as one number, its left word before its right word, so that facts ascend as these numbers do.
 abbrev pub fact : ℕ → ℕ → ℕ → ℕ
@@ -58,6 +62,10 @@ leftWord f = f / wordPart
 abbrev pub rightWord : ℕ → ℕ
 rightWord f = f % wordPart
 
+-- the size words, for so many facts
+abbrev pub stateSizes : ℕ → ℕ → List ℕ
+stateSizes objects facts = objects ∷ facts ∷ []
+
 -- of n objects with these facts
 unfoldable pub stateRecord : ℕ → List ℕ → List ℕ
-stateRecord n facts = recordOf leftWord rightWord (n ∷ length facts ∷ []) facts
+stateRecord n facts = recordOf leftWord rightWord (stateSizes n (length facts)) facts
