@@ -90,7 +90,7 @@ legal-alike S I J same declared legal =
       holds = λ i h. holds-alike (S .signature) I J same (S .axiomAt i) (declared i h) (legal .holds i h);
     }
 
-alike-sym : (s : Signature) (I J : State) → Alike s I J → Alike s J I
+pub alike-sym : (s : Signature) (I J : State) → Alike s I J → Alike s J I
 alike-sym s I J same =
     record {
       size = sym (same .size);

@@ -16,7 +16,7 @@ use Rattle.records.proofs.NamesLaws.{repeats-none}
 use Rattle.records.proofs.General.BoolLaws.{not-both, cond-elim, or-left}
 use Rattle.records.proofs.General.FiniteLaws.{any-none, count-le, any-found}
 use Rattle.records.specs.Schema.{Schema, Legal}
-use Rattle.records.specs.Semantics.{In}
+use Rattle.records.specs.Semantics.{In, Selects}
 use Rattle.records.specs.Subsumption.{Counterexample, Held}
 use Rattle.records.specs.Helpers.Steps.{conceptSteps}
 use Rattle.chase.specs.ClassSet.{has}
@@ -224,9 +224,12 @@ module _ (t : Task) (formed : WellFormed t) where
   pub candidate-legal : clash t ≡ false → Legal (t .schema) (candidate t)
   candidate-legal n = opened t _ _ _ _ _ _ (finished n) .0
 
+  pub start-selected : clash t ≡ false → Selects (candidate t) (t .query) (first t)
+  start-selected n = opened t _ _ _ _ _ _ (finished n) .1
+
   pub says-open : clash t ≡ false → (In (candidate t) (t .view) (first t) → ⊥)
       → Counterexample (t .schema) (t .query) (t .view) (candidate t) (first t)
-  says-open n x = record { legal = candidate-legal n; selected = opened t _ _ _ _ _ _ (finished n) .1; outside = x }
+  says-open n x = record { legal = candidate-legal n; selected = start-selected n; outside = x }
 
   pub is-small : conceptSteps (t .query) ≤ querySteps → conceptSteps (t .view) ≤ viewSteps → t .schema .signature .constants ≤ maxConstants
       → candidate t .size ≤ maxCandidate

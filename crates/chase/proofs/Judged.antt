@@ -1,11 +1,10 @@
--- What the judge's word on a written state means: if the state is like the candidate and has no counterexample, then held.
--- So of accepted records: the candidate's record is accepted, and if its state has no counterexample, then held (written-judged).
-use Prim.Native.Nat.{ℕ}
-use mathlib.Core.Bool.{Bool, true, false, So}
+-- What the start's place in the written state means: in the view, then held; outside it, then the written state is a
+-- counterexample (start-in, start-out). The candidate's record is accepted (written-fits).
+use Prim.Native.Nat.{ℕ, _<_}
+use mathlib.Core.Bool.{false, So}
 use mathlib.Core.List.{List}
-use mathlib.Core.Path.{_≡_, refl}
+use mathlib.Core.Path.{_≡_, subst}
 use Rattle.records.specs.Layout.{querySteps, viewSteps}
-use Rattle.records.specs.State.{State}
 use Rattle.records.specs.Semantics.{In}
 use Rattle.records.specs.Subsumption.{Counterexample, Held}
 use Rattle.records.specs.SchemaRecord.{signatureOf, schemaOf}
@@ -14,48 +13,56 @@ use Rattle.records.specs.StateRecord.{stateOf}
 use Rattle.records.specs.SchemaRefusal.{AcceptedSchema}
 use Rattle.records.specs.ConceptRefusal.{AcceptedConcept}
 use Rattle.records.specs.StateRefusal.{AcceptedState}
-use Rattle.records.proofs.ExecutableLaws.{in-dec}
 use Rattle.chase.specs.Declared.{Declared}
-use Rattle.chase.specs.Task.{Task, WellFormed, taskOf}
+use Rattle.chase.specs.Task.{Task, taskOf}
 use Rattle.chase.specs.Primary.{clash}
 use Rattle.chase.specs.Candidate.{candidate, first}
 use Rattle.chase.specs.Written.{written}
-use Rattle.chase.proofs.Answers.{clash-held, says-held, says-open}
-use Rattle.chase.proofs.Alike.{Alike, counterexample-alike}
+use Rattle.chase.proofs.Answers.{clash-held, start-selected, says-held, says-open}
+use Rattle.chase.proofs.Alike.{Alike, alike-sym, in-alike, counterexample-alike}
 use Rattle.chase.proofs.AcceptanceLaws.{Within, accepted-within, accepted-view}
 use Rattle.chase.proofs.WrittenLaws.{written-accepted, written-alike}
-
-pub judged-held : (t : Task) → WellFormed t → Declared (t .schema .signature) (t .view) → (J : State)
-    → Alike (t .schema .signature) (candidate t) J → Dec (In (candidate t) (t .view) (first t))
-    → ((d : ℕ) → Counterexample (t .schema) (t .query) (t .view) J d → ⊥) → Held (t .schema) (t .query) (t .view)
-judged-held t formed view J same (yes x) none = says-held t formed x
-judged-held t formed view J same (no x) none = go (clash t) refl
-  where
-    go : (b : Bool) → clash t ≡ b → Held (t .schema) (t .query) (t .view)
-    go true c = clash-held t formed c
-    go false n =
-        absurd
-        (none (first t)
-        (counterexample-alike (t .schema) (t .query) (t .view) (candidate t) J (first t) same (formed .axioms) (formed .query) view
-        (says-open t formed n x)))
 
 module _ (schema query view : List ℕ) (legal : AcceptedSchema schema) (asked : AcceptedConcept querySteps (signatureOf schema) query)
     (stored : AcceptedConcept viewSteps (signatureOf schema) view) where
   within : Within (taskOf schema query view)
   within = accepted-within schema query view legal asked stored
 
-  pub written-judged : clash (taskOf schema query view) ≡ false
-      → AcceptedState (signatureOf schema) (written (taskOf schema query view))
-      × (((d : ℕ) → Counterexample (schemaOf schema) (conceptOf query) (conceptOf view) (stateOf (written (taskOf schema query view))) d → ⊥)
-      → Held (schemaOf schema) (conceptOf query) (conceptOf view))
-  unfolding taskOf schemaOf
-  written-judged c =
-      let t = taskOf schema query view in (
-        written-accepted t within c,
-        judged-held t (within .formed) (accepted-view schema query view legal asked stored) (stateOf (written t))
-            (written-alike t within c) (in-dec (candidate t) (t .view) (first t)),
-      )
-
   pub clash-judged : So (clash (taskOf schema query view)) → Held (schemaOf schema) (conceptOf query) (conceptOf view)
   unfolding taskOf
   clash-judged = clash-held (taskOf schema query view) (within .formed)
+
+  module _ (apart : clash (taskOf schema query view) ≡ false) where
+    abbrev t : Task
+    t = taskOf schema query view
+
+    alike : Alike (t .schema .signature) (candidate t) (stateOf (written t))
+    alike = written-alike t within apart
+
+    declared : Declared (t .schema .signature) (t .view)
+    unfolding taskOf schemaOf
+    declared = accepted-view schema query view legal asked stored
+
+    pub written-fits : AcceptedState (signatureOf schema) (written t)
+    unfolding taskOf schemaOf
+    written-fits = written-accepted t within apart
+
+    pub start-small : first t < stateOf (written t) .size
+    start-small = subst (λ (n : ℕ). first t < n) (alike .size) (start-selected t (within .formed) apart .0)
+
+    pub start-in : In (stateOf (written t)) (conceptOf view) (first t) → Held (schemaOf schema) (conceptOf query) (conceptOf view)
+    unfolding taskOf
+    start-in x =
+        says-held t (within .formed)
+        (in-alike (t .schema .signature) (stateOf (written t)) (candidate t) (alike-sym (t .schema .signature) (candidate t) (stateOf (written t)) alike)
+        (t .view) (first t) declared start-small x)
+
+    pub start-out : (In (stateOf (written t)) (conceptOf view) (first t) → ⊥)
+        → Counterexample (schemaOf schema) (conceptOf query) (conceptOf view) (stateOf (written t)) (first t)
+    unfolding taskOf
+    start-out x =
+        counterexample-alike (t .schema) (t .query) (t .view) (candidate t) (stateOf (written t)) (first t) alike
+        (within .formed .axioms) (within .formed .query) declared
+        (says-open t (within .formed) apart
+        (λ y. x (in-alike (t .schema .signature) (candidate t) (stateOf (written t)) alike (t .view) (first t) declared
+        (start-selected t (within .formed) apart .0) y)))

@@ -1,5 +1,7 @@
--- The most objects of a candidate, from the limits of records (document 01, the ground of the bound of 480).
+-- The most objects of a candidate, from the limits of records (document 01, the ground of the bound of 480), and the most
+-- facts of so many objects.
 use Prim.Native.Nat.{ℕ, zero, suc, _+_, _*_}
+use Rattle.records.specs.declared.schema.Signature.{Signature}
 use Rattle.records.specs.Layout.{querySteps, viewSteps, maxConstants}
 
 -- 0 + 1 + .. + n
@@ -18,3 +20,7 @@ maxForest = maxNodes + maxNodes * tri viewSteps
 -- and the closing object
 abbrev pub maxCandidate : ℕ
 maxCandidate = maxForest + 1
+
+-- each object is in each class at most, and has, beside the query's pairs, one value of each attribute; each constant has a name
+abbrev pub mostFacts : Signature → ℕ → ℕ → ℕ
+mostFacts s objects pairs = s .classes * objects + (s .attributes * objects + pairs) + s .constants

@@ -8,7 +8,7 @@ use Rattle.chase.specs.Facts.{Edge}
 use Rattle.chase.specs.Bounds.{maxNodes}
 use Rattle.primary.specs.Words.{edgeOf, EdgeIn, EdgesIn}
 use Rattle.primary.proofs.WordLaws.{edge-word}
-use Rattle.primary.proofs.TurnLaws.{changed}
+use Rattle.records.proofs.General.Filling.{changed}
 use Rattle.ground.specs.Numbers.{Inside, objectIn, renumberIn, renumberWord}
 use Rattle.ground.proofs.NumberLaws.{object-part}
 

@@ -5,7 +5,7 @@ use native.Mathlib.Omega.{arith}
 use mathlib.Core.List.{map}
 use mathlib.Core.Path.{_≡_, refl, ap, _∙_}
 use lib.ListN.{length, length-set}
-use Rattle.primary.proofs.TurnLaws.{changed, changed-more, changed-all}
+use Rattle.records.proofs.General.Filling.{changed, changed-more, changed-all}
 use Rattle.primary.specs.Words.{edgeOf}
 use Rattle.ground.proofs.EdgeLaws.{edge-next, words-edges}
 use Rattle.ground.specs.Numbers.{renumberWord}
