@@ -1,12 +1,12 @@
 -- The table of domains after the first axioms: only the entry of the axiom's own attribute changes, to what is collected for it.
-use Prim.Native.Nat.{ℕ, _+_, _<_}
+use Prim.Native.Nat.{ℕ, zero, suc, _+_, _<_}
 use native.Mathlib.Decide.{ℕ-discrete}
 use native.Mathlib.Omega.{arith}
 use mathlib.Core.Bool.{Bool}
 use mathlib.Core.List.{List}
 use mathlib.Core.Path.{_≡_, refl, sym, ap, _∙_}
 use lib.Bits.{bitOr, or-zero-r}
-use lib.ListN.{length, length-set, getD, set, replicate, length-replicate, getD-replicate}
+use lib.ListN.{length, length-set, getD, set, replicate, length-replicate}
 use lib.Seq.{getD-set-same, getD-set-other}
 use borrow.Author.Tests.{eq-eqb, ne-eqb}
 use Rattle.records.specs.declared.schema.Axiom.{Axiom}
@@ -18,7 +18,7 @@ use Rattle.chase.specs.ClassSet.{place}
 use Rattle.chase.specs.Loops.{upto}
 use Rattle.classes.specs.declared.domains.Entry.{Entry}
 use Rattle.classes.specs.Domains.{entryOf, DomainTable}
-use Rattle.classes.proofs.TurnLaws.{upto-none, upto-more, upto-all}
+use Rattle.chase.proofs.TurnLaws.{upto-none, upto-more, upto-all}
 
 entry-own : (x : Axiom) → entryOf x .set ≡ domainBy (entryOf x .attribute) x
 entry-own (Subclass A B) = refl
@@ -34,6 +34,11 @@ entry-other (Necessary A R) P n = refl
 entry-other (Single A R) P n = refl
 entry-other (Relates R A B) P n = ap (λ (b : Bool). only b (place A)) (sym (ne-eqb R P (λ q. n (sym q))))
 
+zeros-at : (n i : ℕ) → _≡_ {A = ℕ} (getD (replicate n 0) i 0) 0
+zeros-at zero i = refl
+zeros-at (suc n) zero = refl
+zeros-at (suc n) (suc i) = zeros-at n i
+
 module _ (w : List ℕ) where
   -- axiom j adds to what has been collected of the domain of P
   abbrev run : ℕ → ℕ → ℕ → ℕ
@@ -42,13 +47,13 @@ module _ (w : List ℕ) where
   -- the table of the first i axioms
   pub record Filled (table : List ℕ) (i : ℕ) : Type 0 where
     pub size : length table ≡ maxAttributes
-    pub sets : (P : ℕ) → P < maxAttributes → getD table P 0 ≡ upto (run P) i 0
+    pub sets : (P : ℕ) → getD table P 0 ≡ upto (run P) i 0
 
   pub filled-none : (n : ℕ) → n ≡ maxAttributes → Filled (replicate n 0) 0
   filled-none n e =
       record {
         size = length-replicate n 0 ∙ e;
-        sets = λ P l. getD-replicate {A = ℕ} n P 0 0 (omega arith) ∙ upto-none (run P) 0;
+        sets = λ P. zeros-at n P ∙ upto-none (run P) 0;
       }
 
   pub filled-more : (table : List ℕ) (i : ℕ) (e : Entry) → e ≡ entryOf (schemaOf w .axiomAt i) → e .attribute < maxAttributes → Filled table i
@@ -56,8 +61,8 @@ module _ (w : List ℕ) where
   filled-more table i e q h z =
       record {
         size = length-set table (e .attribute) word ∙ z .size;
-        sets = λ P l.
-            upto-more (run P) i 0 (getD table P 0) (getD (set table (e .attribute) word) P 0) (z .sets P l)
+        sets = λ P.
+            upto-more (run P) i 0 (getD table P 0) (getD (set table (e .attribute) word) P 0) (z .sets P)
             (pick P (ℕ-discrete P (e .attribute)));
       }
     where
@@ -80,4 +85,4 @@ module _ (w : List ℕ) where
   pub filled-all : (table : List ℕ) (i : ℕ) → Filled table i → i ≡ entries schemaLayout w → DomainTable w table
   unfolding collect schemaOf
   filled-all table i z e =
-      record { size = z .size; sets = λ P l. upto-all (run P) i (entries schemaLayout w) 0 (getD table P 0) (z .sets P l) e }
+      record { size = z .size; sets = λ P. upto-all (run P) i (entries schemaLayout w) 0 (getD table P 0) (z .sets P) e }

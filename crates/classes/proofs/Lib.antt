@@ -1,4 +1,3 @@
 -- Laws that callers' proofs cite, and those that several proofs here share.
-pub mod TurnLaws
 pub mod SchemaLaws
 mod DomainLaws

@@ -1,5 +1,5 @@
 -- The domains of all attributes as a table; what one axiom adds to it, and what one adds to a class set by it.
-use Prim.Native.Nat.{ℕ, _<_}
+use Prim.Native.Nat.{ℕ}
 use mathlib.Core.List.{List}
 use mathlib.Core.Path.{_≡_}
 use lib.ListN.{length, getD}
@@ -11,10 +11,10 @@ use Rattle.chase.specs.ClassSet.{place}
 use Rattle.chase.specs.Axioms.{domain, raiseBy}
 use Rattle.classes.specs.declared.domains.Entry.{Entry}
 
--- the table of the record w
+-- the table of the record w; an attribute past its end has no domain
 pub record DomainTable (w table : List ℕ) : Type 0 where
   pub size : length table ≡ maxAttributes
-  pub sets : (P : ℕ) → P < maxAttributes → getD table P 0 ≡ domain (schemaOf w) P
+  pub sets : (P : ℕ) → getD table P 0 ≡ domain (schemaOf w) P
 
 abbrev nothing : Entry
 nothing = record { attribute = 0; set = 0 }

@@ -28,8 +28,8 @@ fn raise_by(table: &[u32; MAX_ATTRIBUTES], set: u32, rule: Axiom) -> u32
     }
 }
 
-// One round over the axioms, with the domains at hand.
-fn raise_with(schema: &[u16], table: &[u32; MAX_ATTRIBUTES], set: u32) -> u32
+// One round over the axioms. The caller makes the table once for all its rounds.
+pub fn raise(schema: &[u16], table: &[u32; MAX_ATTRIBUTES], set: u32) -> u32
     requires { ⌜ AcceptedSchema (now schema) × DomainTable (now schema) (now table) ⌝ }
     ensures { λ r. ⌜ r ≡ raiseIn (schemaOf (now (schema .entry))) set ⌝ }
 {
@@ -41,15 +41,6 @@ fn raise_with(schema: &[u16], table: &[u32; MAX_ATTRIBUTES], set: u32) -> u32
     raised
 }
 
-// One round over the axioms.
-pub fn raise(schema: &[u16], set: u32) -> u32
-    requires { ⌜ AcceptedSchema (now schema) ⌝ }
-    ensures { λ r. ⌜ r ≡ raiseIn (schemaOf (now (schema .entry))) set ⌝ }
-{
-    let table = domains(schema);
-    raise_with(schema, &table, set)
-}
-
 // Rounds until the set stands still. It only grows, so that there is an end.
 pub fn closure(schema: &[u16], set: u32) -> u32
     requires { ⌜ AcceptedSchema (now schema) × DeclaredSet (now schema) set ⌝ }
@@ -57,10 +48,10 @@ pub fn closure(schema: &[u16], set: u32) -> u32
 {
     let table = domains(schema);
     let mut closed = set;
-    let mut next = raise_with(schema, &table, set);
+    let mut next = raise(schema, &table, set);
     while next != closed {
         closed = next;
-        next = raise_with(schema, &table, closed);
+        next = raise(schema, &table, closed);
     }
     closed
 }

@@ -7,29 +7,15 @@ use records::schema::axioms;
 ghost use mathlib.Core.Path.{_≡_};
 ghost use Rattle.records.specs.SchemaRecord.{schemaOf};
 ghost use Rattle.records.specs.SchemaRefusal.{AcceptedSchema};
-ghost use Rattle.chase.specs.Axioms.{domainBy, needsBy, singleBy, valuesBy, collect as collectIn, domain as domainIn, values as valuesIn};
+ghost use Rattle.chase.specs.Axioms.{needsBy, singleBy, valuesBy, collect as collectIn, values as valuesIn};
 ghost use Rattle.records.specs.Helpers.InRange.{AxiomInRange};
 ghost use Rattle.classes.specs.Asked.{addsBy};
 
 // What is collected: for an attribute, and for `Values` at an object with the classes of a set.
 pub enum Asked {
-    Domain(usize),
     Needs(usize),
     Single(usize),
     Values(u32, usize),
-}
-
-fn domain_by(attribute: usize, rule: Axiom) -> u32
-    requires { ⌜ AxiomInRange rule ⌝ }
-    ensures { λ r. ⌜ r ≡ domainBy attribute rule ⌝ }
-{
-    match rule {
-        Axiom::Subclass(_, _) => 0,
-        Axiom::Typing(_, _, _) => 0,
-        Axiom::Necessary(_, _) => 0,
-        Axiom::Single(_, _) => 0,
-        Axiom::Relates(p, a, _) => place_if(p == attribute, a),
-    }
 }
 
 fn needs_by(attribute: usize, rule: Axiom) -> u32
@@ -76,7 +62,6 @@ fn adds(asked: Asked, rule: Axiom) -> u32
     ensures { λ r. ⌜ r ≡ addsBy asked rule ⌝ }
 {
     match asked {
-        Asked::Domain(p) => domain_by(p, rule),
         Asked::Needs(p) => needs_by(p, rule),
         Asked::Single(p) => single_by(p, rule),
         Asked::Values(set, p) => values_by(set, p, rule),
@@ -93,14 +78,6 @@ fn collect(schema: &[u16], asked: Asked) -> u32
         set |= adds(asked, axiom_at(schema, i));
     }
     set
-}
-
-// The classes of the first objects of pairs of the attribute.
-pub fn domain(schema: &[u16], attribute: usize) -> u32
-    requires { ⌜ AcceptedSchema (now schema) ⌝ }
-    ensures { λ r. ⌜ r ≡ domainIn (schemaOf (now (schema .entry))) attribute ⌝ }
-{
-    collect(schema, Asked::Domain(attribute))
 }
 
 // The classes whose objects have a value of the attribute.

@@ -1,5 +1,5 @@
-// The domains of all attributes as a table, made in one pass over the axioms, since each round of raising a set looks
-// them up again and again. The schema is an accepted record.
+// The domains of all attributes as a table, made in one pass over the axioms, since each round of raising a set and each
+// edge of a query looks them up again. The schema is an accepted record.
 use crate::sets::place;
 use records::schema::Axiom;
 use records::schema::MAX_ATTRIBUTES;
@@ -7,6 +7,7 @@ use records::schema::axiom_at;
 use records::schema::axioms;
 ghost use mathlib.Core.Path.{_≡_};
 ghost use Prim.Native.Nat.{_<_};
+ghost use lib.ListN.{length, getD};
 ghost use Rattle.records.specs.Layout.{maxAttributes};
 ghost use Rattle.records.specs.SchemaRefusal.{AcceptedSchema};
 ghost use Rattle.records.specs.Helpers.InRange.{AxiomInRange};
@@ -59,4 +60,16 @@ pub fn domains(schema: &[u16]) -> [u32; MAX_ATTRIBUTES]
         table[p] |= e.set;
     }
     table
+}
+
+// The entry of any attribute: one that no schema can declare has no domain.
+pub fn domain_at(table: &[u32; MAX_ATTRIBUTES], attribute: usize) -> u32
+    requires { ⌜ length (now table) ≡ maxAttributes ⌝ }
+    ensures { λ r. ⌜ r ≡ getD (now (table .entry)) attribute 0 ⌝ }
+{
+    if attribute < MAX_ATTRIBUTES {
+        table[attribute]
+    } else {
+        0
+    }
 }

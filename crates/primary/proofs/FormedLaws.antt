@@ -16,9 +16,8 @@ use Rattle.primary.specs.Words.{EdgeIn, EdgesIn, MembersIn}
 use Rattle.chase.specs.Loops.{each, upto}
 use Rattle.records.proofs.General.BoolLaws.{cond-elim}
 use Rattle.records.proofs.General.ListLaws.{getD-map}
-use Rattle.classes.proofs.TurnLaws.{upto-none, upto-more}
+use Rattle.chase.proofs.TurnLaws.{upto-none, upto-more, passed, passed-none, passed-more, passed-all}
 use Rattle.primary.specs.Formed.{prime, moved, Formed, Becomes}
-use Rattle.primary.proofs.TurnLaws.{passed, passed-none, passed-more, passed-all}
 
 module _ (r s : List ℕ) (formed : Formed r s) where
   pub becomes-add : (n c : ℕ) (t : List ℕ) → t ≡ set s (getD r n 0) (bitOr (getD s (getD r n 0) 0) c)
@@ -126,6 +125,11 @@ module _ (S : Schema) (e f : Edge) (x : Prime) where
 
   pub unify-off : rival S e f x ≡ false → unify S e f x ≡ x
   unify-off h = ap (λ (b : Bool). cond b (merge (e .target) (f .target) x) x) h
+
+  -- nothing is to do where the targets are one object already
+  pub unify-same : repOf x (e .target) ≡ repOf x (f .target) → unify S e f x ≡ x
+  unify-same h =
+      cond-elim (λ (y : Prime). y ≡ x) (rival S e f x) (λ _. merge-self x (e .target) (f .target) (omega arith) (omega arith)) (λ _. refl)
 
   -- whether they are: the test of the axioms is made only where the others pass
   abbrev together : Bool

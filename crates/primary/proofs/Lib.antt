@@ -1,6 +1,5 @@
 -- Laws that callers' proofs cite, and those that several proofs here share.
 pub mod WordLaws
-pub mod TurnLaws
 pub mod FormedLaws
 pub mod SumLaws
 pub mod SettleLaws

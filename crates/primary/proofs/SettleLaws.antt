@@ -11,6 +11,7 @@ use Rattle.records.specs.SchemaRecord.{signatureOf, schemaOf}
 use Rattle.records.specs.SchemaRefusal.{AcceptedSchema}
 use Rattle.records.specs.ConceptRefusal.{AcceptedConcept}
 use Rattle.records.proofs.AcceptedLaws.{passes-1, passes-2, passes-4, passes-5, passes-6, accepted-limit}
+use Rattle.classes.specs.Domains.{DomainTable}
 use Rattle.chase.specs.Task.{Task, WellFormed, nodes, asked, taskOf}
 use Rattle.chase.specs.Primary.{Prime, repOf, pass, weight, begin, bound, settled, primary}
 use Rattle.records.proofs.General.AllLaws.{All, all-unmapped, all-getD}
@@ -112,9 +113,9 @@ module _ (s q ms qs es : List ℕ) (asks : Asks s q ms qs es) where
     pub room : (length r ≤ maxNodes) × (length l ≤ maxNodes)
     room = let few = nodes-few s q (asks .legal) (asks .sound) in (omega (arith, few, ok .reps), omega (arith, few, ok .sets))
 
-    pub ready : AcceptedSchema s × Formed r l × FactsIn (length r) ms qs es
-    ready =
-        (asks .legal, ok-formed (queryTask s q) r l ok, subst (λ (n : ℕ). FactsIn n ms qs es) (sym (ok .reps)) asks-facts)
+    pub ready : (d : List ℕ) → DomainTable s d → AcceptedSchema s × DomainTable s d × Formed r l × FactsIn (length r) ms qs es
+    ready d domains =
+        (asks .legal, domains, ok-formed (queryTask s q) r l ok, subst (λ (n : ℕ). FactsIn n ms qs es) (sym (ok .reps)) asks-facts)
 
     abbrev pub Passed : List ℕ → List ℕ → Type 0
     Passed r′ l′ =

@@ -1,20 +1,23 @@
 // The rules of a pass: what the query's facts say of the nodes, and what the axioms say of a node, of the two ends of an
-// edge, and of two edges. A fact is a word of two or three parts (specs/Words.antt).
+// edge, and of two edges. A fact is a word of two or three parts (specs/Words.antt). The table has the domains of all
+// attributes, which a rule would else collect again for each node or edge.
 use crate::prime::add;
 use crate::prime::merge;
 use crate::prime::set_of;
 use classes::closure::raise;
-use classes::collect::domain;
 use classes::collect::single_mask;
 use classes::collect::values;
+use classes::domains::domain_at;
 use classes::sets::meets;
 use classes::sets::place;
 use records::layout::wide;
+use records::schema::MAX_ATTRIBUTES;
 ghost use mathlib.Core.Path.{_≡_};
 ghost use mathlib.Core.List.{map};
 ghost use lib.ListN.{length};
 ghost use Rattle.records.specs.SchemaRecord.{schemaOf};
 ghost use Rattle.records.specs.SchemaRefusal.{AcceptedSchema};
+ghost use Rattle.classes.specs.Domains.{DomainTable};
 ghost use Rattle.chase.specs.Loops.{each, upto};
 ghost use Rattle.chase.specs.Primary.{equate, assert, lift, rival as rivalIn, unify as unifyIn};
 ghost use Rattle.primary.specs.Formed.{prime, Formed, Becomes};
@@ -45,36 +48,48 @@ pub fn assert_all(members: &[u16], reps: &[u32], sets: &mut [u32])
     }
 }
 
-pub fn lift_all(schema: &[u16], reps: &[u32], sets: &mut [u32])
-    requires { ⌜ AcceptedSchema (now schema) × Formed (now reps) (now sets) ⌝ }
+pub fn lift_all(schema: &[u16], table: &[u32; MAX_ATTRIBUTES], reps: &[u32], sets: &mut [u32])
+    requires { ⌜ AcceptedSchema (now schema) × DomainTable (now schema) (now table) × Formed (now reps) (now sets) ⌝ }
     ensures { λ _. ⌜ Becomes (length (now (reps .entry))) (now (reps .entry)) (now (sets .exit)) (upto (lift (schemaOf (now (schema .entry)))) (length (now (reps .entry))) (prime (now (reps .entry)) (now (sets .entry)))) ⌝ }
 {
     let n = reps.len();
     for i in 0..n {
-        let raised = raise(schema, set_of(reps, sets, i));
+        let raised = raise(schema, table, set_of(reps, sets, i));
         add(reps, sets, i, raised);
     }
 }
 
 // The two ends of an edge.
-fn type_edge(schema: &[u16], edge: usize, reps: &[u32], sets: &mut [u32])
-    requires { ⌜ AcceptedSchema (now schema) × Formed (now reps) (now sets) × EdgeIn (length (now reps)) edge ⌝ }
+fn type_edge(
+    schema: &[u16],
+    table: &[u32; MAX_ATTRIBUTES],
+    edge: usize,
+    reps: &[u32],
+    sets: &mut [u32],
+)
+    requires { ⌜ AcceptedSchema (now schema) × DomainTable (now schema) (now table) × Formed (now reps) (now sets) × EdgeIn (length (now reps)) edge ⌝ }
     ensures { λ _. ⌜ Becomes (length (now (reps .entry))) (now (reps .entry)) (now (sets .exit)) (typeEdge (schemaOf (now (schema .entry))) (edgeOf edge) (prime (now (reps .entry)) (now (sets .entry)))) ⌝ }
 {
     let attribute = edge / PART / PART;
     let origin = edge / PART % PART;
-    add(reps, sets, origin, domain(schema, attribute));
+    add(reps, sets, origin, domain_at(table, attribute));
     let found = values(schema, set_of(reps, sets, origin), attribute);
     add(reps, sets, edge % PART, found);
 }
 
-pub fn type_all(schema: &[u16], edges: &[u16], reps: &[u32], sets: &mut [u32])
-    requires { ⌜ AcceptedSchema (now schema) × Formed (now reps) (now sets) × EdgesIn (length (now reps)) (now edges) ⌝ }
+pub fn type_all(
+    schema: &[u16],
+    table: &[u32; MAX_ATTRIBUTES],
+    edges: &[u16],
+    reps: &[u32],
+    sets: &mut [u32],
+)
+    requires { ⌜ AcceptedSchema (now schema) × DomainTable (now schema) (now table) × Formed (now reps) (now sets) × EdgesIn (length (now reps)) (now edges) ⌝ }
     ensures { λ _. ⌜ Becomes (length (now (reps .entry))) (now (reps .entry)) (now (sets .exit)) (each (typeEdge (schemaOf (now (schema .entry)))) (map edgeOf (now (edges .entry))) (prime (now (reps .entry)) (now (sets .entry)))) ⌝ }
 {
     let n = edges.len();
     for i in 0..n {
-        type_edge(schema, wide(edges[i]), reps, sets);
+        type_edge(schema, table, wide(edges[i]), reps, sets);
     }
 }
 
@@ -93,10 +108,14 @@ fn rival(schema: &[u16], e: usize, f: usize, reps: &[u32], sets: &[u32]) -> bool
     meets(set_of(reps, sets, origin), single_mask(schema, attribute))
 }
 
+// Most pairs are not rivals, or have one target already: the axioms are read only for the others.
 fn unify(schema: &[u16], e: usize, f: usize, reps: &mut [u32], sets: &mut [u32])
     requires { ⌜ AcceptedSchema (now schema) × Formed (now reps) (now sets) × EdgeIn (length (now reps)) e × EdgeIn (length (now reps)) f ⌝ }
     ensures { λ _. ⌜ Becomes (length (now (reps .entry))) (now (reps .exit)) (now (sets .exit)) (unifyIn (schemaOf (now (schema .entry))) (edgeOf e) (edgeOf f) (prime (now (reps .entry)) (now (sets .entry)))) ⌝ }
 {
+    if reps[e % PART] == reps[f % PART] {
+        return;
+    }
     if rival(schema, e, f, reps, sets) {
         merge(reps, sets, e % PART, f % PART);
         return;

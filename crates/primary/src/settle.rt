@@ -2,6 +2,7 @@
 use crate::begin::begin;
 use crate::pass::pass;
 use crate::pass::weight;
+use classes::domains::domains;
 ghost use mathlib.Core.Path.{_≡_};
 ghost use Rattle.chase.specs.Task.{nodes};
 ghost use lib.ListN.{length};
@@ -22,12 +23,13 @@ fn settle(
     requires { ⌜ Asks (now schema) (now query) (now members) (now equations) (now edges) × (prime (now reps) (now sets) ≡ beginOf (queryTask (now schema) (now query))) ⌝ }
     ensures { λ _. ⌜ Becomes (nodes (queryTask (now (schema .entry)) (now (query .entry)))) (now (reps .exit)) (now (sets .exit)) (primary (queryTask (now (schema .entry)) (now (query .entry)))) ⌝ }
 {
+    let table = domains(schema);
     let mut last = weight(reps, sets);
-    pass(schema, members, equations, edges, reps, sets);
+    pass(schema, &table, members, equations, edges, reps, sets);
     let mut next = weight(reps, sets);
     while next != last {
         last = next;
-        pass(schema, members, equations, edges, reps, sets);
+        pass(schema, &table, members, equations, edges, reps, sets);
         next = weight(reps, sets);
     }
 }

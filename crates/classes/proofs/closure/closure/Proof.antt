@@ -21,14 +21,14 @@ abbrev μ-loop : tie.MeasureT-loop
 domains-requires : tie.Need-domains-requires Inv-loop μ-loop
 domains-requires c κs = c .before .pre .0
 
-raise-with-requires : tie.Need-raise-with-requires Inv-loop μ-loop
-raise-with-requires c κs = (c .before .before .before .pre .0, c .before .domains .ensures)
+raise-requires : tie.Need-raise-requires Inv-loop μ-loop
+raise-requires c κs = (c .before .before .before .pre .0, c .before .domains .ensures)
 
 loop-holds : tie.Need-loop-holds Inv-loop μ-loop
-loop-holds c = (c .raise-with .ensures, refl, c .before .before .before .before .pre .1)
+loop-holds c = (c .raise .ensures, refl, c .before .before .before .before .pre .1)
 
-raise-with-requires-2 : tie.Need-raise-with-requires-2 Inv-loop μ-loop
-raise-with-requires-2 c κs = (c .before .before .before .before .before .before .before .pre .0, c .before .before .before .before .before .domains .ensures)
+raise-requires-2 : tie.Need-raise-requires-2 Inv-loop μ-loop
+raise-requires-2 c κs = (c .before .before .before .before .before .before .before .pre .0, c .before .before .before .before .before .domains .ensures)
 
 loop-less : tie.Need-loop-less Inv-loop μ-loop
 loop-less c =
@@ -45,7 +45,7 @@ loop-again : tie.Need-loop-again Inv-loop μ-loop
 loop-again c =
     let start = c .before .before .before .before .before .before .before .before in
     let turn = c .before .before .before .loop in (
-      c .raise-with2 .ensures,
+      c .raise2 .ensures,
       rw (turn .inv .0)
           (closure-next (schemaOf (start .args .schema .now)) (axioms-declared _ (start .pre .0)) (turn .closed) (turn .inv .2) ∙ turn .inv .1),
       rw (turn .inv .0) (raise-declared (start .args .schema .now) (start .pre .0) (turn .closed) (turn .inv .2)),
@@ -66,9 +66,9 @@ closure-spec =
     Inv-loop
     μ-loop
     domains-requires
-    raise-with-requires
+    raise-requires
     loop-holds
-    raise-with-requires-2
+    raise-requires-2
     loop-less
     loop-again
     returns)

@@ -46,7 +46,7 @@ returns-2 c = λ w d. search needs
 
 returns-3 : tie.Need-returns-3
 returns-3 c = λ w d.
-    d .sets _ (subst AxiomInRange (c .before .before .before .before .rule2 .given .1) (c .before .before .before .before .before .before .pre) .1)
+    d .sets _
     ∙ sym (necessary-raises _ _ _ _ _ true (c .before .before .before .before .rule2 .given .1) (sym (c .before .if1 .taken) ∙ c .before .before .has2 .ensures))
 
 returns-4 : tie.Need-returns-4

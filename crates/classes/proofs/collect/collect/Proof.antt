@@ -7,7 +7,7 @@ use Rattle.chase.specs.Loops.{upto}
 use Rattle.chase.specs.Axioms.{collect}
 use Rattle.records.specs.Helpers.InRange.{AxiomInRange}
 use Rattle.classes.specs.Asked.{addsBy}
-use Rattle.classes.proofs.TurnLaws.{upto-none, upto-more, upto-all}
+use Rattle.chase.proofs.TurnLaws.{upto-none, upto-more, upto-all}
 use native.Mathlib.Nat.{le-antisymm}
 use Rattle.records.proofs.AcceptedLaws.{axiom-in-range}
 use native.Mathlib.Omega.{arith}

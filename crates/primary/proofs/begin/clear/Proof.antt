@@ -5,7 +5,7 @@ use native.Mathlib.Omega.{arith}
 use mathlib.Core.Path.{_≡_, refl, ap, _∙_}
 use native.Mathlib.Nat.{le-antisymm}
 use lib.ListN.{length, take, length-set, replicate}
-use Rattle.primary.proofs.BeginLaws.{listed, listed-more, listed-all, listed-zeros}
+use Rattle.records.proofs.General.Filling.{listed, listed-more, listed-all, listed-zeros}
 use Rattle.primary.proofs.begin.clear.Statement.{statement}
 use Rattle.primary.proofs.begin.clear.Tie as tie
 

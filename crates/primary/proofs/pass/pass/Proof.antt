@@ -12,36 +12,54 @@ use Rattle.primary.proofs.pass.pass.Statement.{statement}
 use Rattle.primary.proofs.pass.pass.Tie as tie
 
 equate-all-requires : tie.Need-equate-all-requires
-equate-all-requires c κs = (c .before .before .before .before .before .before .before .before .pre .1, c .before .before .before .before .before .before .before .before .pre .2 .equations)
+equate-all-requires c κs = let start = c .before .before .before .before .before .before .before .before in (start .pre .2, start .pre .3 .equations)
 
 assert-all-requires : tie.Need-assert-all-requires
-assert-all-requires c κs = (c .before .before .before .before .before .before .equate-all .ensures .formed, members-sized _ _ (c .before .before .before .before .before .before .before .before .before .before .before .before .before .before .before .args .members .now) (c .before .before .before .before .before .before .equate-all .ensures .size) (c .before .before .before .before .before .before .before .before .before .before .before .before .before .before .before .pre .2 .members))
+assert-all-requires c κs =
+    let start = c .before .before .before .before .before .before .before .before .before .before .before .before .before .before .before in
+    let equated = c .before .before .before .before .before .before .equate-all .ensures in
+    (equated .formed, members-sized _ _ (start .args .members .now) (equated .size) (start .pre .3 .members))
 
 lift-all-requires : tie.Need-lift-all-requires
-lift-all-requires c κs = (c .before .before .before .before .before .before .before .before .before .before .before .before .before .before .before .before .before .before .before .before .pre .0, c .before .before .before .before .assert-all .ensures .formed)
+lift-all-requires c κs = let start = c .before .before .before .before .before .before .before .before .before .before .before .before .before .before .before .before .before .before .before .before in (start .pre .0, start .pre .1, c .before .before .before .before .assert-all .ensures .formed)
 
 type-all-requires : tie.Need-type-all-requires
-type-all-requires c κs = (c .before .before .before .before .before .before .before .before .before .before .before .before .before .before .before .before .before .before .before .before .before .before .before .before .before .pre .0, c .before .before .before .before .lift-all .ensures .formed, edges-sized _ _ (c .before .before .before .before .before .before .before .before .before .before .before .before .before .before .before .before .before .before .before .before .before .before .before .before .before .args .edges .now) (c .before .before .before .before .before .before .before .before .before .before .before .before .before .before .before .before .equate-all .ensures .size) (c .before .before .before .before .before .before .before .before .before .before .before .before .before .before .before .before .before .before .before .before .before .before .before .before .before .pre .2 .edges))
+type-all-requires c κs =
+    let start = c .before .before .before .before .before .before .before .before .before .before .before .before .before .before .before .before .before .before .before .before .before .before .before .before .before in (
+      start .pre .0,
+      start .pre .1,
+      c .before .before .before .before .lift-all .ensures .formed,
+      edges-sized _ _ (start .args .edges .now) (c .before .before .before .before .before .before .before .before .before .before .before .before .before .before .before .before .equate-all .ensures .size) (start .pre .3 .edges),
+    )
 
 unify-all-requires : tie.Need-unify-all-requires
-unify-all-requires c κs = (c .before .before .before .before .before .before .before .before .before .before .before .before .before .before .before .before .before .before .before .before .before .before .before .before .before .before .before .before .before .before .pre .0, c .before .before .before .before .type-all .ensures .formed, edges-sized _ _ (c .before .before .before .before .before .before .before .before .before .before .before .before .before .before .before .before .before .before .before .before .before .before .before .before .before .before .before .before .before .before .args .edges .now) (c .before .before .before .before .before .before .before .before .before .before .before .before .before .before .before .before .before .before .before .before .before .equate-all .ensures .size) (c .before .before .before .before .before .before .before .before .before .before .before .before .before .before .before .before .before .before .before .before .before .before .before .before .before .before .before .before .before .before .pre .2 .edges))
+unify-all-requires c κs =
+    let start = c .before .before .before .before .before .before .before .before .before .before .before .before .before .before .before .before .before .before .before .before .before .before .before .before .before .before .before .before .before .before in (
+      start .pre .0,
+      c .before .before .before .before .type-all .ensures .formed,
+      edges-sized _ _ (start .args .edges .now) (c .before .before .before .before .before .before .before .before .before .before .before .before .before .before .before .before .before .before .before .before .before .equate-all .ensures .size) (start .pre .3 .edges),
+    )
 
 same-length : tie.Need-same-length
 same-length c = c .before .before .before .before .unify-all .ensures .size ∙ c .before .before .before .before .before .before .before .before .before .before .before .before .before .before .before .before .before .before .before .before .before .before .before .before .before .before .equate-all .ensures .size
 
 same-length-2 : tie.Need-same-length-2
 same-length-2 c =
-    c .before .before .before .before .unify-all .ensures .formed .paired ∙ c .before .before .before .before .unify-all .ensures .size ∙ c .before .before .before .before .before .before .before .before .before .before .before .before .before .before .before .before .before .before .before .before .before .before .before .before .before .before .equate-all .ensures .size
-    ∙ sym (c .before .before .before .before .before .before .before .before .before .before .before .before .before .before .before .before .before .before .before .before .before .before .before .before .before .before .before .before .before .before .before .before .before .before .before .pre .1 .paired)
+    let unified = c .before .before .before .before .unify-all .ensures in
+    unified .formed .paired ∙ unified .size ∙ c .before .before .before .before .before .before .before .before .before .before .before .before .before .before .before .before .before .before .before .before .before .before .before .before .before .before .equate-all .ensures .size ∙ sym (c .before .before .before .before .before .before .before .before .before .before .before .before .before .before .before .before .before .before .before .before .before .before .before .before .before .before .before .before .before .before .before .before .before .before .before .pre .2 .paired)
 
 returns : tie.Need-returns
 unfolding passOn
 returns c =
-    becomes-then _ _ (each (unifyRow (schemaOf (c .before .before .before .before .before .before .before .before .before .before .before .before .before .before .before .before .before .before .before .before .before .before .before .before .before .before .before .before .before .before .before .before .before .before .before .args .schema .now)) (map edgeOf (c .before .before .before .before .before .before .before .before .before .before .before .before .before .before .before .before .before .before .before .before .before .before .before .before .before .before .before .before .before .before .before .before .before .before .before .args .edges .now))) (map edgeOf (c .before .before .before .before .before .before .before .before .before .before .before .before .before .before .before .before .before .before .before .before .before .before .before .before .before .before .before .before .before .before .before .before .before .before .before .args .edges .now))) _ _ _ _
-    (becomes-then _ _ (each (typeEdge (schemaOf (c .before .before .before .before .before .before .before .before .before .before .before .before .before .before .before .before .before .before .before .before .before .before .before .before .before .before .before .before .before .before .before .before .before .before .before .args .schema .now))) (map edgeOf (c .before .before .before .before .before .before .before .before .before .before .before .before .before .before .before .before .before .before .before .before .before .before .before .before .before .before .before .before .before .before .before .before .before .before .before .args .edges .now))) _ _ _ _
-    (becomes-then _ _ (upto (lift (schemaOf (c .before .before .before .before .before .before .before .before .before .before .before .before .before .before .before .before .before .before .before .before .before .before .before .before .before .before .before .before .before .before .before .before .before .before .before .args .schema .now))) (length (c .before .before .before .before .before .before .before .before .before .before .before .before .before .before .before .before .before .before .before .before .before .before .before .before .before .before .before .before .before .before .before .before .before .before .before .args .reps .now))) _ _ _ _
-    (becomes-then _ _ (each assert (map memberOf (c .before .before .before .before .before .before .before .before .before .before .before .before .before .before .before .before .before .before .before .before .before .before .before .before .before .before .before .before .before .before .before .before .before .before .before .args .members .now))) _ _ _ _ (c .before .before .before .before .before .before .before .before .before .before .before .before .before .before .before .before .before .before .before .before .before .before .before .before .before .before .equate-all .ensures) (c .before .before .before .before .before .before .before .before .before .before .before .before .before .before .before .before .before .before .before .assert-all .ensures))
-    (turns-all (lift (schemaOf (c .before .before .before .before .before .before .before .before .before .before .before .before .before .before .before .before .before .before .before .before .before .before .before .before .before .before .before .before .before .before .before .before .before .before .before .args .schema .now))) _ _ _ _ _ _ (c .before .before .before .before .before .before .before .before .before .before .before .before .before .before .before .before .before .before .before .before .before .before .before .before .before .before .equate-all .ensures .size) (c .before .before .before .before .before .before .before .before .before .before .before .before .before .before .lift-all .ensures)))
+    let a = c .before .before .before .before .before .before .before .before .before .before .before .before .before .before .before .before .before .before .before .before .before .before .before .before .before .before .before .before .before .before .before .before .before .before .before .args in
+    let S = schemaOf (a .schema .now) in
+    let es = map edgeOf (a .edges .now) in
+    let equated = c .before .before .before .before .before .before .before .before .before .before .before .before .before .before .before .before .before .before .before .before .before .before .before .before .before .before .equate-all .ensures in
+    becomes-then _ _ (each (unifyRow S es) es) _ _ _ _
+    (becomes-then _ _ (each (typeEdge S) es) _ _ _ _
+    (becomes-then _ _ (upto (lift S) (length (a .reps .now))) _ _ _ _
+    (becomes-then _ _ (each assert (map memberOf (a .members .now))) _ _ _ _ equated (c .before .before .before .before .before .before .before .before .before .before .before .before .before .before .before .before .before .before .before .assert-all .ensures))
+    (turns-all (lift S) _ _ _ _ _ _ (equated .size) (c .before .before .before .before .before .before .before .before .before .before .before .before .before .before .lift-all .ensures)))
     (c .before .before .before .before .before .before .before .before .before .type-all .ensures))
     (c .before .before .before .before .unify-all .ensures)
 

@@ -5,7 +5,7 @@ use native.Mathlib.Omega.{arith}
 use mathlib.Core.Path.{_≡_, refl, _∙_}
 use lib.ListN.{length, length-set}
 use Rattle.primary.specs.Formed.{moved}
-use Rattle.primary.proofs.TurnLaws.{changed, changed-more, changed-all}
+use Rattle.records.proofs.General.Filling.{changed, changed-more, changed-all}
 use Rattle.primary.proofs.prime.move_all.Statement.{statement}
 use Rattle.primary.proofs.prime.move_all.Tie as tie
 

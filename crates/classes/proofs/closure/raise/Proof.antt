@@ -7,12 +7,12 @@ use Rattle.records.specs.SchemaRecord.{schemaOf}
 use Rattle.chase.specs.Loops.{upto}
 use Rattle.chase.specs.Axioms.{raiseBy, raise}
 use Rattle.records.specs.Helpers.InRange.{AxiomInRange}
-use Rattle.classes.proofs.TurnLaws.{upto-none, upto-more, upto-all}
+use Rattle.chase.proofs.TurnLaws.{upto-none, upto-more, upto-all}
 use Rattle.records.proofs.AcceptedLaws.{axiom-in-range}
 use native.Mathlib.Omega.{arith}
 use borrow.Author.Needs.{needs}
-use Rattle.classes.proofs.closure.raise_with.Statement.{statement}
-use Rattle.classes.proofs.closure.raise_with.Tie as tie
+use Rattle.classes.proofs.closure.raise.Statement.{statement}
+use Rattle.classes.proofs.closure.raise.Tie as tie
 
 abbrev Inv-loop : tie.InvT-loop
 Inv-loop schema table set n raised₀ i₀ raised i = (i ≤ n) × (raised ≡ upto (λ j x. bitOr x (raiseBy (schemaOf schema) x (schemaOf schema .axiomAt j))) i set)
@@ -46,8 +46,8 @@ returns : tie.Need-returns Inv-loop μ-loop
 unfolding raise schemaOf
 returns c = upto-all _ _ _ _ _ (c .before .loop .inv .1) (le-antisymm (c .before .loop .inv .0) (c .loop-test .left) ∙ c .before .before .axioms .ensures .value)
 
-pub raise-with-spec : {M : Type 1} → statement M
-raise-with-spec =
+pub raise-spec : {M : Type 1} → statement M
+raise-spec =
     tie.close
     (tie.spec
     Inv-loop
