@@ -57,14 +57,15 @@ module _ {w v seen ls rs : List ℕ} {e : ℕ} (z : Place w v seen ls rs e) wher
   place-room q = omega (arith, objects-room (z .evaluable))
 
   -- a path whose steps have their landings
-  pub place-walk : {ms : List ℕ} {b : ℕ} → b ≤ e → HasPath w b → Landed w v ms (startOf w b 1) b → Walk w v ms b
-  place-walk l path landed =
+  pub place-walk : {ms : List ℕ} {b : ℕ} → length ms ≡ length ls → b ≤ e → HasPath w b → Landed w v ms (startOf w b 1) b → Walk w v ms b
+  place-walk q l path landed =
       record {
         signature = z .signature;
         seen = seen;
         evaluable = z .evaluable;
         within = omega (arith, z .within);
         path = path;
+        room = q ∙ z .room;
         landed = landed;
       }
 
@@ -139,7 +140,7 @@ module _ {w v seen ls rs : List ℕ} {at : ℕ} (z : Place w v seen ls rs (suc a
   last-walk {ms} {ns} {ss} {ts} {m} {b} path y x =
       let x = subst (λ (m : ℕ). PathAt w v m ms ns ss ts b) (y .start) x in
       let all = lands-join (y .landings) (x .landings) (start-le w (startOf w at 1) 1) (start-le w at 1) in
-      place-walk z (omega arith) path λ i l k. all .landed i (omega (arith, start-le w (startOf w at 1) 1)) k
+      place-walk z (all .size) (omega arith) path λ i l k. all .landed i (omega (arith, start-le w (startOf w at 1) 1)) k
 
   pub common-selected : {ms ns ss ts us : List ℕ} {m b : ℕ} {set : List ℕ} → tokenAt w at ≡ Common → Reads w at Common → PathAt w v at ls ms rs ss m
       → PathAt w v m ms ns ss ts b

@@ -1,7 +1,7 @@
 -- What the loops over the rows of relations keep: the identity, a row put into another, a step's facts, and what two
 -- relations share.
 use Prim.Native.Nat.{ℕ, _+_, _*_, _/_, _%_, _^_, _≤_, _<_}
-use mathlib.Core.Bool.{Bool, false, So, _&&_, _||_, and-false, or-false}
+use mathlib.Core.Bool.{Bool, false, So, not, _&&_, _||_, and-false, or-false}
 use mathlib.Core.List.{List}
 use mathlib.Core.Logic.{_⊎_, inl, inr, ⊎-elim}
 use mathlib.Core.Path.{_≡_, refl, sym, ap, ap₂, _∙_}
@@ -19,14 +19,16 @@ use Rattle.index.specs.BitSet.{wordBits, bit, bitAt, Inserted}
 use Rattle.index.specs.Kinds.{KindParts}
 use Rattle.index.proofs.BitLaws.{word-or, word-and, word-zero}
 use Rattle.index.proofs.BitSetLaws.{zero-bits}
-use Rattle.index.proofs.KindLaws.{kind-before, kind-after}
+use Rattle.index.proofs.KindLaws.{kind-before, kind-after, kind-within}
 use Rattle.evaluate.specs.declared.steps.Step.{Step}
+use Rattle.evaluate.specs.declared.steps.Ends.{Ends}
 use Rattle.evaluate.specs.declared.relation.Bases.{Bases}
 use Rattle.evaluate.specs.Selection.{setWords}
-use Rattle.evaluate.specs.Rows.{rowBit, Filled}
-use Rattle.evaluate.specs.Steps.{originAt, targetAt, lands}
-use Rattle.evaluate.specs.Relation.{noWord, Outside, Room, Diagonal, Merged, Followed, carries, Stepped, Gathered, Shared}
-use Rattle.evaluate.proofs.RowLaws.{row-word}
+use Rattle.evaluate.specs.Rows.{rowBit, Filled, SharedRow}
+use Rattle.evaluate.specs.Steps.{originAt, targetAt, lands, objectIn}
+use Rattle.evaluate.specs.Relation.{noWord, Outside, Room, Diagonal, Joined, Merged, Followed, carries, Stepped, Gathered, Shared}
+use Rattle.evaluate.proofs.RowLaws.{row-word, row-same}
+use Rattle.evaluate.proofs.StepLaws.{object-end, end-few, Facing, facing-within}
 
 pub room-same : {n : ℕ} {b : Bases} {ws us : List ℕ} → Room n b ws → length us ≡ length ws → Room n b us
 room-same z e = record { rel = rw e (z .rel); spare = rw e (z .spare); apart = z .apart; few = rw e (z .few) }
@@ -109,26 +111,33 @@ module _ {base n : ℕ} where
         kept = λ k o out m. z .kept k o out m ∙ cleared-other base n f k o out m;
       }
 
--- A row put into another.
+-- A set put into a row, and a row put into another.
 
-abbrev pub mergedWord : List ℕ → ℕ → ℕ → ℕ → ℕ
-mergedWord ws r s i = bitOr (getD ws (r * setWords + i) 0) (getD ws (s * setWords + i) 0)
+abbrev pub joinedWord : List ℕ → ℕ → List ℕ → ℕ → ℕ
+joinedWord ws r set i = bitOr (getD ws (r * setWords + i) 0) (getD set i 0)
 
--- the words that a turn reads are still those of the beginning
-pub merging-word : {ws vs : List ℕ} (r s : ℕ) {j : ℕ} → Filled (mergedWord ws r s) (r * setWords) j ws vs → j < setWords → mergedWord vs r s j ≡ mergedWord ws r s j
-merging-word r s {j} z l =
-    ap₂ bitOr (z .kept (r * setWords + j) (λ i m q. omega arith)) (z .kept (s * setWords + j) (λ i m q. omega arith))
+-- the word that a turn reads is still that of the beginning
+pub joining-word : {ws vs : List ℕ} (r : ℕ) (set : List ℕ) {j : ℕ} → Filled (joinedWord ws r set) (r * setWords) j ws vs → joinedWord vs r set j ≡ joinedWord ws r set j
+joining-word r set {j} z = ap (λ (x : ℕ). bitOr x (getD set j 0)) (z .kept (r * setWords + j) (λ i m q. omega arith))
 
-pub merged-of : {ws vs : List ℕ} {r s : ℕ} → Filled (mergedWord ws r s) (r * setWords) setWords ws vs → Merged ws r s vs
-merged-of {ws} {vs} {r} {s} z = record { size = z .size; bits = λ k o l. pick k o l (ℕ-discrete k r) }
+pub joined-of : {ws vs : List ℕ} {r : ℕ} {set : List ℕ} → Filled (joinedWord ws r set) (r * setWords) setWords ws vs → Joined ws r set vs
+unfolding bitAt
+joined-of {ws} {vs} {r} {set} z = record { size = z .size; bits = λ k o l. pick k o l (ℕ-discrete k r) }
   where
-    pick : (k o : ℕ) → o < objectPart → Dec (k ≡ r) → rowBit vs k o ≡ (rowBit ws k o || eqb k r && rowBit ws s o)
+    pick : (k o : ℕ) → o < objectPart → Dec (k ≡ r) → rowBit vs k o ≡ (rowBit ws k o || eqb k r && bitAt set o)
     pick k o l (yes q) =
-        rw (eq-eqb k r q, q, row-word vs r o, row-word ws r o, row-word ws s o, z .done (o / wordBits) (omega arith))
+        rw (eq-eqb k r q, q, row-word vs r o, row-word ws r o, z .done (o / wordBits) (omega arith))
         (word-or _ _ (o % wordBits))
     pick k o l (no n) =
         rw (ne-eqb k r n, row-word vs k o, row-word ws k o, z .kept (k * setWords + o / wordBits) (λ i m q. n (omega arith)))
         (sym (or-false _))
+
+pub merged-by : {ws vs set : List ℕ} {r s : ℕ} → SharedRow ws ws s set → Joined ws r set vs → Merged ws r s vs
+merged-by {ws} {vs} {set} {r} {s} h z =
+    record {
+      size = z .size;
+      bits = λ k o l. z .bits k o l ∙ ap (λ (b : Bool). rowBit ws k o || eqb k r && b) (row-same ws s h .bits o l);
+    }
 
 -- What two rows share, put into a set.
 
@@ -168,25 +177,25 @@ carries-kind : (w : List ℕ) (x : Step) (landings : List ℕ) (a : ℕ) (b : Ba
     → kindAt w i ≡ x .kind
 carries-kind w x landings a b ws t o i h = eqb-true (kindAt w i) (x .kind) (and-left _ _ (and-left _ _ h))
 
-module _ {w : List ℕ} {x : Step} {landings : List ℕ} {a : ℕ} {b : Bases} where
-  pub followed-more : {i g c : ℕ} {ws vs : List ℕ} → kindAt w i ≡ x .kind → g ≡ targetAt w x i → c ≡ originAt w x i
-      → So (rowBit landings a g)
+module _ {w : List ℕ} {e : Ends} {set : List ℕ} {b : Bases} where
+  pub followed-more : {i g c : ℕ} {ws vs : List ℕ} → g ≡ objectIn w (e .targets) i → c ≡ objectIn w (e .origins) i → So (bitAt set g)
       → Merged ws (b .rel + g) (b .spare + c) vs
-      → Followed w x landings a b ws i vs
-  followed-more {i} {g} {c} is t-is o-is h m =
+      → Followed w e set b ws i vs
+  followed-more {i} {g} {c} t-is o-is h m =
       record {
         size = m .size;
-        bits = λ k o l. m .bits k o l ∙ rw (eq-eqb (kindAt w i) (x .kind) is, ← t-is, ← o-is, h);
+        bits = λ k o l. m .bits k o l ∙ rw (← t-is, ← o-is, h);
       }
 
   -- the target is not in the set
-  pub followed-outside : {i g : ℕ} {ws : List ℕ} → g ≡ targetAt w x i → rowBit landings a g ≡ false → Followed w x landings a b ws i ws
+  pub followed-outside : {i g : ℕ} {ws : List ℕ} → g ≡ objectIn w (e .targets) i → bitAt set g ≡ false → Followed w e set b ws i ws
   followed-outside {i} {g} {ws} t-is h =
       record {
         size = refl;
-        bits = λ k o l. rw (← t-is, h, and-false (eqb (kindAt w i) (x .kind))) (sym (or-false (rowBit ws k o)));
+        bits = λ k o l. rw (← t-is, h) (sym (or-false (rowBit ws k o)));
       }
 
+module _ {w : List ℕ} {x : Step} {landings : List ℕ} {a : ℕ} {b : Bases} where
   pub stepped-none : {n from : ℕ} {ws vs : List ℕ} → n ≡ objects w → Filled noWord (b .rel * setWords) (n * setWords) ws vs
       → KindParts w (x .kind) from from
       → Stepped w x landings a b vs from vs
@@ -197,21 +206,37 @@ module _ {w : List ℕ} {x : Step} {landings : List ℕ} {a : ℕ} {b : Bases} w
         kept = λ k o h m. refl;
       }
 
-  pub stepped-more : {i : ℕ} {us ws vs : List ℕ} → Stepped w x landings a b us i ws → Room (objects w) b us → targetAt w x i < objects w
-      → originAt w x i < objects w
-      → Followed w x landings a b ws i vs
+  pub stepped-more : {from to i : ℕ} {e : Ends} {set us ws vs : List ℕ} → Facing w from to e x → from ≤ i → i < to → Stepped w x landings a b us i ws
+      → Room (objects w) b us
+      → SharedRow landings landings a set
+      → Followed w e set b ws i vs
       → Stepped w x landings a b us (i + 1) vs
-  stepped-more {i} {us} {ws} {vs} z room target origin h =
+  stepped-more {i = i} {us = us} {ws = ws} {vs = vs} f lower upper z room r h =
       record {
         size = h .size ∙ z .size;
-        bits = λ t o l m. h .bits (b .rel + t) o m ∙ rw (
+        bits = λ t o l m. carried (b .rel + t) o m ∙ rw (
           any-more (carries w x landings a b us t o) i,
           z .bits t o l m,
           eqb-same (b .rel + t) (b .rel + targetAt w x i) t (targetAt w x i) (λ q. omega arith) (λ q. omega arith),
-          z .kept (b .spare + originAt w x i) o (⊎-elim (λ p. inr (omega arith)) (λ p. inl (omega arith)) (room .apart)) m,
+          z .kept (b .spare + originAt w x i) o (⊎-elim (λ p. inr (omega (arith, p, origin))) (λ p. inl (omega (arith, p, origin))) (room .apart)) m,
         );
-        kept = λ k o out m. h .bits k o m ∙ rw (ne-eqb k (b .rel + targetAt w x i) (λ q. ⊎-elim (λ l. omega arith) (λ l. omega arith) out), and-false (lands w x landings a i)) (or-false (rowBit ws k o)) ∙ z .kept k o out m;
+        kept = λ k o out m. carried k o m ∙ rw (ne-eqb k (b .rel + targetAt w x i) (λ q. ⊎-elim (λ l. omega (arith, q, l, target)) (λ l. omega (arith, q, l, target)) out), and-false (lands w x landings a i)) (or-false (rowBit ws k o)) ∙ z .kept k o out m;
       }
+    where
+      j : i < entries stateLayout w
+      j = facing-within f upper
+
+      target : targetAt w x i < objects w
+      target = f .ok .inside (not (x .backward)) i j
+
+      origin : originAt w x i < objects w
+      origin = f .ok .inside (x .backward) i j
+
+      carried : (k o : ℕ) → o < objectPart
+          → rowBit vs k o ≡ (rowBit ws k o || lands w x landings a i && (eqb k (b .rel + targetAt w x i) && rowBit ws (b .spare + originAt w x i) o))
+      carried k o m =
+          h .bits k o m
+          ∙ rw (f .ends, object-end (f .ok) (not (x .backward)) i j, object-end (f .ok) (x .backward) i j, row-same landings a r .bits (targetAt w x i) (end-few (f .ok) (not (x .backward)) i j), eq-eqb (kindAt w i) (x .kind) (kind-within _ (f .first) (f .last) _ lower upper))
 
   -- what the rows held that were cleared for the step is not asked for
   pub stepped-all : {n i to : ℕ} {ws us vs : List ℕ} → n ≡ objects w → Filled noWord (b .rel * setWords) (n * setWords) ws us

@@ -115,6 +115,7 @@ module _ {w v landings : List ℕ} {at : ℕ} (z : Walk w v landings (suc at)) w
           evaluable = z .evaluable;
           within = omega (arith, z .within, start-le w at 1);
           path = s .reads .3;
+          room = z .room;
           landed = λ i a b. z .landed i (omega (arith, s .reads .1)) (omega (arith, start-le w at 1));
         })
 

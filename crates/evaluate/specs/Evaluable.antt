@@ -42,3 +42,10 @@ commonAt w i = isCommon (tokenAt w i)
 pub record Relations (w v rows : List ℕ) : Type 0 where
   pub room : So (any (entries conceptLayout w) (commonAt w)) → 3 * (objects v * setWords) ≤ length rows
   pub few : length rows < 2 ^ 32
+
+-- the numbers of objects for which rows are kept, below the most
+abbrev pub fewObjects : ℕ
+fewObjects = 64
+
+abbrev pub someObjects : ℕ
+someObjects = 192

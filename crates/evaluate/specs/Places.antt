@@ -65,4 +65,5 @@ pub record Walk (w v landings : List ℕ) (e : ℕ) : Type 0 where
   pub evaluable : Evaluable signature w v seen
   pub within : e ≤ entries conceptLayout w
   pub path : HasPath w e
+  pub room : length landings ≡ maxTokens * setWords
   pub landed : Landed w v landings (startOf w e 1) e

@@ -15,10 +15,11 @@ use Rattle.records.specs.Layout.{objectPart}
 use Rattle.records.specs.StateRecord.{objects}
 use Rattle.index.specs.BitSet.{bitAt}
 use Rattle.evaluate.specs.declared.steps.Step.{Step}
+use Rattle.evaluate.specs.declared.steps.Ends.{Ends}
 use Rattle.evaluate.specs.declared.relation.Bases.{Bases}
 use Rattle.evaluate.specs.Selection.{setWords, Selection}
 use Rattle.evaluate.specs.Rows.{rowBit}
-use Rattle.evaluate.specs.Steps.{originAt, targetAt, lands}
+use Rattle.evaluate.specs.Steps.{originAt, targetAt, lands, objectIn}
 
 -- a word with no bits
 abbrev pub noWord : ℕ → ℕ
@@ -41,16 +42,21 @@ pub record Diagonal (base n : ℕ) (ws vs : List ℕ) : Type 0 where
   pub bits : (t o : ℕ) → t < n → o < objectPart → rowBit vs (base + t) o ≡ eqb o t
   pub kept : (k o : ℕ) → Outside k base n → o < objectPart → rowBit vs k o ≡ rowBit ws k o
 
+-- vs is ws with the set put into row r
+pub record Joined (ws : List ℕ) (r : ℕ) (set vs : List ℕ) : Type 0 where
+  pub size : length vs ≡ length ws
+  pub bits : (k o : ℕ) → o < objectPart → rowBit vs k o ≡ (rowBit ws k o || eqb k r && bitAt set o)
+
 -- vs is ws with row s put into row r
 pub record Merged (ws : List ℕ) (r s : ℕ) (vs : List ℕ) : Type 0 where
   pub size : length vs ≡ length ws
   pub bits : (k o : ℕ) → o < objectPart → rowBit vs k o ≡ (rowBit ws k o || eqb k r && rowBit ws s o)
 
--- vs is ws with what fact i of the step carries
-pub record Followed (w : List ℕ) (x : Step) (landings : List ℕ) (a : ℕ) (b : Bases) (ws : List ℕ) (i : ℕ) (vs : List ℕ) : Type 0 where
+-- vs is ws with what fact i carries, if its target is in a set
+pub record Followed (w : List ℕ) (e : Ends) (set : List ℕ) (b : Bases) (ws : List ℕ) (i : ℕ) (vs : List ℕ) : Type 0 where
   pub size : length vs ≡ length ws
   pub bits : (k o : ℕ) → o < objectPart
-      → rowBit vs k o ≡ (rowBit ws k o || lands w x landings a i && (eqb k (b .rel + targetAt w x i) && rowBit ws (b .spare + originAt w x i) o))
+      → rowBit vs k o ≡ (rowBit ws k o || bitAt set (objectIn w (e .targets) i) && (eqb k (b .rel + objectIn w (e .targets) i) && rowBit ws (b .spare + objectIn w (e .origins) i) o))
 
 -- fact i lands on object t, and carries there what led to its origin
 abbrev pub carries : List ℕ → Step → List ℕ → ℕ → Bases → List ℕ → ℕ → ℕ → ℕ → Bool

@@ -1,10 +1,10 @@
 -- A step of a path by the facts of its kind, and the set of the objects from which it leads into a set.
-use Prim.Native.Nat.{ℕ, _+_, _^_, _≤_, _<_}
-use mathlib.Core.Bool.{Bool, true, false, cond, not, _&&_}
+use Prim.Native.Nat.{ℕ, _+_, _%_, _^_, _≤_, _<_}
+use mathlib.Core.Bool.{Bool, true, false, cond, not, _&&_, _||_}
 use mathlib.Core.List.{List}
 use mathlib.Core.Path.{_≡_}
 use lib.Dec.{eqb}
-use lib.ListN.{length}
+use lib.ListN.{length, getD}
 use Rattle.records.specs.declared.concept.Token.{Token}
 use Rattle.records.specs.declared.concept.Token.the-variants.{Class, Everything, Constant, Both, Empty, Forward, Backward, Reached, Common}
 use Rattle.records.specs.Finite.{any}
@@ -13,6 +13,7 @@ use Rattle.records.specs.StateRecord.{objects, kindAt, objectAt}
 use Rattle.index.specs.BitSet.{bitAt}
 use Rattle.index.specs.Kinds.{KindsRise}
 use Rattle.evaluate.specs.declared.steps.Step.{Step}
+use Rattle.evaluate.specs.declared.steps.Ends.{Ends}
 use Rattle.evaluate.specs.Selection.{setWords}
 use Rattle.evaluate.specs.Rows.{rowBit}
 
@@ -58,6 +59,22 @@ lands w x landings a i = eqb (kindAt w i) (x .kind) && rowBit landings a (target
 -- .. from o into the set
 abbrev pub leadsInto : List ℕ → Step → List ℕ → ℕ → List ℕ → ℕ → ℕ → Bool
 leadsInto w x landings a into o i = lands w x landings a i && bitAt into (targetAt w x i) && eqb o (originAt w x i)
+
+-- where the words with the first or with the second objects of the pairs begin
+abbrev pub endsFrom : List ℕ → Bool → ℕ
+endsFrom w second = cond second (stateLayout .sizes + entries stateLayout w) (stateLayout .sizes)
+
+abbrev pub endsOf : List ℕ → Bool → Ends
+endsOf w back = record { origins = endsFrom w back; targets = endsFrom w (not back) }
+
+-- the object that fact i names in the words from a place on
+abbrev pub objectIn : List ℕ → ℕ → ℕ → ℕ
+objectIn w from i = getD w (from + i) 0 % objectPart
+
+-- vs is ws with the origin of fact i, if its target is in a set
+pub record Led (w : List ℕ) (e : Ends) (into ws : List ℕ) (i : ℕ) (vs : List ℕ) : Type 0 where
+  pub size : length vs ≡ length ws
+  pub bits : (o : ℕ) → bitAt vs o ≡ (bitAt ws o || bitAt into (objectIn w (e .targets) i) && eqb o (objectIn w (e .origins) i))
 
 -- vs is the set of the objects from which the first n facts lead the step into a set
 pub record Origins (w : List ℕ) (x : Step) (landings : List ℕ) (a : ℕ) (into : List ℕ) (n : ℕ) (vs : List ℕ) : Type 0 where

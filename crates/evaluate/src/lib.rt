@@ -9,11 +9,13 @@ use records::schema::Signature;
 use records::state::MAX_OBJECTS;
 use records::state::objects;
 ghost use mathlib.Core.Path.{_≡_};
+ghost use mathlib.Core.Bool.{false};
+ghost use Prim.Native.Nat.{_≤_};
 ghost use Rattle.records.specs.Finite.{any};
 ghost use Rattle.records.specs.Layout.{conceptLayout, entries};
 ghost use Rattle.records.specs.ConceptRecord.{conceptOf};
-ghost use Rattle.records.specs.StateRecord.{stateOf};
-ghost use Rattle.evaluate.specs.Evaluable.{isCommon, commonAt, Evaluable, Relations};
+ghost use Rattle.records.specs.StateRecord.{stateOf, objects as objectsOf};
+ghost use Rattle.evaluate.specs.Evaluable.{isCommon, commonAt, Evaluable, Relations, fewObjects, someObjects};
 ghost use Rattle.evaluate.specs.Selection.{Selection};
 
 mod items;
@@ -74,7 +76,61 @@ fn evaluate_in(
     found.set
 }
 
-// The words for relations by how many objects there are; a concept that asks for no common object needs none.
+// A concept that asks for no common object has no relations.
+fn without_rows(
+    s: Signature,
+    concept: &[u16],
+    state: &[u16],
+    seen: &[u64; TABLE_WORDS],
+) -> [u64; SET_WORDS]
+    requires { ⌜ Evaluable s (now concept) (now state) (now seen) ⌝ }
+    requires { ⌜ any (entries conceptLayout (now concept)) (commonAt (now concept)) ≡ false ⌝ }
+    ensures { λ r. ⌜ Selection (stateOf (now (state .entry))) (conceptOf (now (concept .entry))) r ⌝ }
+{
+    let mut none = [0u64; 1];
+    evaluate_in(s, concept, state, seen, &mut none)
+}
+
+// Rows by how many objects there are. A function for each size, so that no call has a frame for more than one of them.
+fn with_few(
+    s: Signature,
+    concept: &[u16],
+    state: &[u16],
+    seen: &[u64; TABLE_WORDS],
+) -> [u64; SET_WORDS]
+    requires { ⌜ Evaluable s (now concept) (now state) (now seen) × (objectsOf (now state) ≤ fewObjects) ⌝ }
+    ensures { λ r. ⌜ Selection (stateOf (now (state .entry))) (conceptOf (now (concept .entry))) r ⌝ }
+{
+    let mut rows = [0u64; 3 * FEW * SET_WORDS];
+    evaluate_in(s, concept, state, seen, &mut rows)
+}
+
+fn with_some(
+    s: Signature,
+    concept: &[u16],
+    state: &[u16],
+    seen: &[u64; TABLE_WORDS],
+) -> [u64; SET_WORDS]
+    requires { ⌜ Evaluable s (now concept) (now state) (now seen) × (objectsOf (now state) ≤ someObjects) ⌝ }
+    ensures { λ r. ⌜ Selection (stateOf (now (state .entry))) (conceptOf (now (concept .entry))) r ⌝ }
+{
+    let mut rows = [0u64; 3 * SOME * SET_WORDS];
+    evaluate_in(s, concept, state, seen, &mut rows)
+}
+
+fn with_all(
+    s: Signature,
+    concept: &[u16],
+    state: &[u16],
+    seen: &[u64; TABLE_WORDS],
+) -> [u64; SET_WORDS]
+    requires { ⌜ Evaluable s (now concept) (now state) (now seen) ⌝ }
+    ensures { λ r. ⌜ Selection (stateOf (now (state .entry))) (conceptOf (now (concept .entry))) r ⌝ }
+{
+    let mut rows = [0u64; 3 * MAX_OBJECTS * SET_WORDS];
+    evaluate_in(s, concept, state, seen, &mut rows)
+}
+
 pub fn evaluate(
     s: Signature,
     concept: &[u16],
@@ -86,17 +142,13 @@ pub fn evaluate(
 {
     let n = objects(state);
     if !has_common(concept) {
-        let mut none = [0u64; 1];
-        return evaluate_in(s, concept, state, seen, &mut none);
+        return without_rows(s, concept, state, seen);
     }
     if n <= FEW {
-        let mut rows = [0u64; 3 * FEW * SET_WORDS];
-        return evaluate_in(s, concept, state, seen, &mut rows);
+        return with_few(s, concept, state, seen);
     }
     if n <= SOME {
-        let mut rows = [0u64; 3 * SOME * SET_WORDS];
-        return evaluate_in(s, concept, state, seen, &mut rows);
+        return with_some(s, concept, state, seen);
     }
-    let mut rows = [0u64; 3 * MAX_OBJECTS * SET_WORDS];
-    evaluate_in(s, concept, state, seen, &mut rows)
+    with_all(s, concept, state, seen)
 }

@@ -1,8 +1,11 @@
 // The relation of a path: a row for each target that there is, the set of the origins that lead there. The rows of several
 // relations stand in one lent list, and a step goes from the rows of one to those of another.
 use crate::layout::SET_WORDS;
+use crate::sets::shared_row;
+use crate::steps::Ends;
 use crate::steps::Step;
-use crate::steps::end_at;
+use crate::steps::ends_of;
+use crate::steps::object_in;
 use crate::steps::step_at;
 use index::bits::has;
 use index::bits::insert;
@@ -15,13 +18,13 @@ use records::state::objects;
 ghost use Prim.Native.Nat.{_+_, _*_, _≤_, _<_, _^_};
 ghost use mathlib.Core.Path.{_≡_};
 ghost use lib.ListN.{length};
-ghost use Rattle.records.specs.Layout.{stateLayout, entries, objectPart, maxTokens};
-ghost use Rattle.records.specs.StateRecord.{stateOf, objects as objectsOf, kindAt};
+ghost use Rattle.records.specs.Layout.{stateLayout, entries, objectPart};
+ghost use Rattle.records.specs.StateRecord.{stateOf, objects as objectsOf};
 ghost use Rattle.records.specs.Helpers.Reading.{pathAt};
 ghost use Rattle.evaluate.specs.Selection.{setWords};
-ghost use Rattle.evaluate.specs.Steps.{Followable, originAt, targetAt};
+ghost use Rattle.evaluate.specs.Steps.{Followable, objectIn};
 ghost use Rattle.evaluate.specs.Rows.{Filled};
-ghost use Rattle.evaluate.specs.Relation.{noWord, Diagonal, Merged, Room, Followed, Stepped, Related};
+ghost use Rattle.evaluate.specs.Relation.{noWord, Diagonal, Joined, Merged, Room, Followed, Stepped, Related};
 ghost use Rattle.evaluate.specs.Places.{Walk};
 
 // Where the rows of a relation begin, and those of a spare one.
@@ -54,56 +57,66 @@ fn identity(rows: &mut [u64], base: usize, n: usize)
     }
 }
 
-// Puts row `s` into row `r`.
+// Puts the set into row `r`.
+fn join(rows: &mut [u64], r: usize, set: &[u64; SET_WORDS])
+    requires { ⌜ r * setWords + setWords ≤ length (now rows) ⌝ }
+    requires { ⌜ length (now set) ≡ setWords ⌝ }
+    ensures { λ _. ⌜ Joined (now (rows .entry)) r (now (set .entry)) (now (rows .exit)) ⌝ }
+{
+    for j in 0..SET_WORDS {
+        let i = r * SET_WORDS + j;
+        rows[i] = rows[i] | set[j];
+    }
+}
+
+// Puts row `s` into row `r`. It is read whole before it is written, so that the words go several at a time.
 fn merge(rows: &mut [u64], r: usize, s: usize)
     requires { ⌜ r * setWords + setWords ≤ length (now rows) ⌝ }
     requires { ⌜ s * setWords + setWords ≤ length (now rows) ⌝ }
     ensures { λ _. ⌜ Merged (now (rows .entry)) r s (now (rows .exit)) ⌝ }
 {
-    for j in 0..SET_WORDS {
-        let k = s * SET_WORDS + j;
-        let i = r * SET_WORDS + j;
-        rows[i] = rows[i] | rows[k];
-    }
+    let set = shared_row(rows, rows, s);
+    join(rows, r, &set);
 }
 
-// If fact `i`, of the step's kind, lands in row `at` of the landings, its target gets the origins of its origin.
+// If the target of fact `i` is in the set, it gets the origins of the fact's origin.
 fn follow(
     state: &[u16],
-    step: Step,
-    landings: &[u64],
-    at: usize,
+    ends: Ends,
+    set: &[u64; SET_WORDS],
     rows: &mut [u64],
     bases: Bases,
     i: usize,
 )
-    requires { ⌜ i < 2 ^ 16 ⌝ }
-    requires { ⌜ at < maxTokens ⌝ }
-    requires { ⌜ kindAt (now state) i ≡ step .kind ⌝ }
-    requires { ⌜ targetAt (now state) step i < objectsOf (now state) ⌝ }
-    requires { ⌜ originAt (now state) step i < objectsOf (now state) ⌝ }
+    requires { ⌜ ends .origins + i < 2 ^ 32 ⌝ }
+    requires { ⌜ ends .targets + i < 2 ^ 32 ⌝ }
+    requires { ⌜ objectIn (now state) (ends .targets) i < objectsOf (now state) ⌝ }
+    requires { ⌜ objectIn (now state) (ends .origins) i < objectsOf (now state) ⌝ }
     requires { ⌜ Room (objectsOf (now state)) bases (now rows) ⌝ }
-    ensures { λ _. ⌜ Followed (now (state .entry)) step (now (landings .entry)) at bases (now (rows .entry)) i (now (rows .exit)) ⌝ }
+    ensures { λ _. ⌜ Followed (now (state .entry)) ends (now (set .entry)) bases (now (rows .entry)) i (now (rows .exit)) ⌝ }
 {
-    let target = end_at(state, !step.backward, i);
-    if has(landings, at * OBJECT_PART + target) {
-        let origin = end_at(state, step.backward, i);
+    let target = object_in(state, ends.targets, i);
+    if has(set, target) {
+        let origin = object_in(state, ends.origins, i);
         merge(rows, bases.rel + target, bases.spare + origin);
     }
 }
 
-// The step added at the path's end: from the path's relation, in the spare rows, to that of the path with the step.
+// The step added at the path's end: from the path's relation, in the spare rows, to that of the path with the step. It lands
+// on objects of row `at` of the landings.
 fn advance(state: &[u16], step: Step, landings: &[u64], at: usize, rows: &mut [u64], bases: Bases)
     requires { ⌜ Followable (now state) step ⌝ }
-    requires { ⌜ at < maxTokens ⌝ }
+    requires { ⌜ at * setWords + setWords ≤ length (now landings) ⌝ }
     requires { ⌜ Room (objectsOf (now state)) bases (now rows) ⌝ }
     ensures { λ _. ⌜ Stepped (now (state .entry)) step (now (landings .entry)) at bases (now (rows .entry)) (entries stateLayout (now (state .entry))) (now (rows .exit)) ⌝ }
 {
     clear(rows, bases.rel * SET_WORDS, objects(state) * SET_WORDS);
     let from = first_of_kind(state, step.kind);
     let to = first_of_kind(state, step.kind + 1);
+    let ends = ends_of(state, step.backward);
+    let set = shared_row(landings, landings, at);
     for i in from..to {
-        follow(state, step, landings, at, rows, bases, i);
+        follow(state, ends, &set, rows, bases, i);
     }
 }
 

@@ -1,15 +1,16 @@
 // The step of a token, and the pair that a fact is.
 use records::concept::Token;
 use records::concept::token_at;
-use records::layout::right;
+use records::layout::word;
 use records::state::ATTRIBUTE_KINDS;
 use records::state::FACT_KINDS;
-use records::state::object_at;
+use records::state::OBJECT_PART;
+use records::state::facts;
 use records::state::state_layout;
-ghost use Prim.Native.Nat.{_<_, _^_};
+ghost use Prim.Native.Nat.{_+_, _<_, _^_};
 ghost use mathlib.Core.Path.{_≡_};
 ghost use Rattle.records.specs.ConceptRecord.{tokenAt};
-ghost use Rattle.evaluate.specs.Steps.{endAt, stepOf};
+ghost use Rattle.evaluate.specs.Steps.{stepOf, endsOf, objectIn};
 
 // The facts that a step follows, and which way.
 pub struct Step {
@@ -44,14 +45,36 @@ pub fn step_at(words: &[u16], at: usize) -> Step
     }
 }
 
-// The first or the second object of the pair that fact `i` is.
-pub fn end_at(state: &[u16], second: bool, i: usize) -> usize
-    requires { ⌜ i < 2 ^ 16 ⌝ }
-    ensures { λ r. ⌜ r ≡ endAt (now (state .entry)) second i ⌝ }
+// Where the words of a step's origins begin, and those of its targets.
+pub struct Ends {
+    pub origins: usize,
+    pub targets: usize,
+}
+
+// Asked once a step, so that its facts are read the same way whichever way it goes.
+pub fn ends_of(state: &[u16], backward: bool) -> Ends
+    ensures { λ r. ⌜ r ≡ endsOf (now (state .entry)) backward ⌝ }
 {
-    if second {
-        right(state_layout(), state, i)
+    let layout = state_layout();
+    let first = layout.sizes;
+    let second = first + facts(state);
+    if backward {
+        Ends {
+            origins: second,
+            targets: first,
+        }
     } else {
-        object_at(state, i)
+        Ends {
+            origins: first,
+            targets: second,
+        }
     }
+}
+
+// The object that fact `i` names in the words from `from` on. A second object is a whole word, but it is no higher.
+pub fn object_in(state: &[u16], from: usize, i: usize) -> usize
+    requires { ⌜ from + i < 2 ^ 32 ⌝ }
+    ensures { λ r. ⌜ r ≡ objectIn (now (state .entry)) from i ⌝ }
+{
+    word(state, from + i) % OBJECT_PART
 }

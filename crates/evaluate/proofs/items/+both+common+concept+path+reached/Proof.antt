@@ -154,7 +154,7 @@ common-meeting-requires t c κs =
     let m = c .before .before .before .before .before .before .before .before .before .before .before .before .before .path .ensures in
     let k = c .before .before .before .before .before .before .path2 .ensures in
     let z = s .pre .1 .0 in
-    (place-walk z (omega (arith, m .start, start-le (s .args .words .now) (s .args .at) 1)) (rw (m .start) (r .3)) (k .landings .landed), (last-walk z (r .2) m k, (omega (arith, k .size, m .size, z .relations (s .args .at) (omega arith) (s .pre .1 .1 .1)), omega (arith, k .size, m .size, z .few))))
+    (place-walk z (k .landings .size ∙ m .landings .size) (omega (arith, m .start, start-le (s .args .words .now) (s .args .at) 1)) (rw (m .start) (r .3)) (k .landings .landed), (last-walk z (r .2) m k, (omega (arith, k .size, m .size, z .relations (s .args .at) (omega arith) (s .pre .1 .1 .1)), omega (arith, k .size, m .size, z .few))))
 
 common-same-length : (t : ℕ) → common-lts.Need-same-length (common-calls t) (common-at t) common.Post
 common-same-length t c = search needs
@@ -333,7 +333,7 @@ reached-reaching-requires : (t : ℕ) → reached-lts.Need-reaching-requires (re
 reached-reaching-requires t c κs =
     let s = c .before .before .before .before .before .before .before .before .before .before .before .before in
     let r = concept-reads (s .args .words .now) (s .args .at) _ (s .pre .1 .1 .0) (s .pre .1 .1 .1) in
-    place-walk (s .pre .1 .0) (omega arith) (r .2) (c .before .before .before .before .before .path .ensures .landings .landed)
+    place-walk (s .pre .1 .0) (c .before .before .before .before .before .path .ensures .landings .size) (omega arith) (r .2) (c .before .before .before .before .before .path .ensures .landings .landed)
 
 reached-same-length : (t : ℕ) → reached-lts.Need-same-length (reached-calls t) (reached-at t) reached.Post
 reached-same-length t c = search needs

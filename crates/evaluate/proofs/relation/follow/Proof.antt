@@ -6,48 +6,40 @@ use borrow.Author.Needs.{needs}
 use Rattle.evaluate.proofs.relation.follow.Statement.{statement}
 use Rattle.evaluate.proofs.relation.follow.Tie as tie
 
-end-at-requires : tie.Need-end-at-requires
-end-at-requires c κs = search needs
-
-mul-has : tie.Need-mul-has
-mul-has c = search needs
-
-add-has : tie.Need-add-has
-add-has c = search needs
+object-in-requires : tie.Need-object-in-requires
+object-in-requires c κs = search needs
 
 has-requires : tie.Need-has-requires
 has-requires c κs = search needs
 
-end-at-requires-2 : tie.Need-end-at-requires-2
-end-at-requires-2 c κs = search needs
+object-in-requires-2 : tie.Need-object-in-requires-2
+object-in-requires-2 c κs = search needs
 
 add-merge : tie.Need-add-merge
-add-merge c = omega (arith, c .before .before .before .before .before .end-at .ensures, c .before .before .before .before .before .before .before .before .before .before .pre .1 .1 .1 .0, c .before .before .before .before .before .before .before .before .before .before .pre .1 .1 .1 .1 .1 .rel)
+add-merge c = omega (arith, c .before .before .before .before .before .before .object-in .ensures, c .before .before .before .before .before .before .before .before .before .pre .1 .1 .0, c .before .before .before .before .before .before .before .before .before .pre .1 .1 .1 .1 .rel)
 
 add-merge-2 : tie.Need-add-merge-2
-add-merge-2 c = omega (arith, c .before .before .before .end-at2 .ensures, c .before .before .before .before .before .before .before .before .before .before .before .pre .1 .1 .1 .1 .0, c .before .before .before .before .before .before .before .before .before .before .before .pre .1 .1 .1 .1 .1 .spare)
+add-merge-2 c = omega (arith, c .before .before .before .object-in2 .ensures, c .before .before .before .before .before .before .before .before .before .before .pre .1 .1 .1 .0, c .before .before .before .before .before .before .before .before .before .before .pre .1 .1 .1 .1 .spare)
 
 merge-requires : tie.Need-merge-requires
-merge-requires c κs = (omega (arith, c .before .before .before .before .before .before .end-at .ensures, c .before .before .before .before .before .before .before .before .before .before .before .pre .1 .1 .1 .0, c .before .before .before .before .before .before .before .before .before .before .before .pre .1 .1 .1 .1 .1 .rel), omega (arith, c .before .before .before .end-at2 .ensures, c .before .before .before .before .before .before .before .before .before .before .before .pre .1 .1 .1 .1 .0, c .before .before .before .before .before .before .before .before .before .before .before .pre .1 .1 .1 .1 .1 .spare))
+merge-requires c κs = (omega (arith, c .before .before .before .before .before .before .before .object-in .ensures, c .before .before .before .before .before .before .before .before .before .before .pre .1 .1 .0, c .before .before .before .before .before .before .before .before .before .before .pre .1 .1 .1 .1 .rel), omega (arith, c .before .before .before .object-in2 .ensures, c .before .before .before .before .before .before .before .before .before .before .pre .1 .1 .1 .0, c .before .before .before .before .before .before .before .before .before .before .pre .1 .1 .1 .1 .spare))
 
 same-length : tie.Need-same-length
 same-length c = search needs
 
 returns : tie.Need-returns
-returns c = followed-more (c .before .before .before .before .before .before .before .before .before .before .before .before .before .before .pre .1 .1 .0) (c .before .before .before .before .before .before .before .before .before .end-at .ensures) (c .before .before .before .before .before .before .end-at2 .ensures) (sym (c .before .before .before .before .before .before .before .before .has .ensures) ∙ c .before .before .before .before .before .before .before .if1 .taken) (c .before .before .merge .ensures)
+returns c = followed-more (c .before .before .before .before .before .before .before .before .before .before .object-in .ensures) (c .before .before .before .before .before .before .object-in2 .ensures) (sym (c .before .before .before .before .before .before .before .before .has .ensures) ∙ c .before .before .before .before .before .before .before .if1 .taken) (c .before .before .merge .ensures)
 
 returns-2 : tie.Need-returns-2
-returns-2 c = followed-outside (c .before .before .end-at .ensures) (sym (c .before .has .ensures) ∙ c .if1 .left)
+returns-2 c = followed-outside (c .before .before .before .object-in .ensures) (sym (c .before .has .ensures) ∙ c .if1 .left)
 
 pub follow-spec : {M : Type 1} → statement M
 follow-spec =
     tie.close
     (tie.spec
-    end-at-requires
-    mul-has
-    add-has
+    object-in-requires
     has-requires
-    end-at-requires-2
+    object-in-requires-2
     add-merge
     add-merge-2
     merge-requires

@@ -1,88 +1,20 @@
--- The words passed are merged (Filled); what a turn reads is still as it was.
-use Rattle.evaluate.proofs.RelationLaws.{mergedWord, merging-word, merged-of}
-use Rattle.evaluate.proofs.RowLaws.{filled-none, filled-more, filled-all}
-use Rattle.evaluate.specs.Rows.{Filled}
-use Rattle.evaluate.specs.Selection.{setWords}
-use mathlib.Core.Path.{refl}
-use Prim.Native.Nat.{_≤_, _-_, _*_}
-use native.Mathlib.Omega.{arith}
+-- The row as a set, joined to the other row.
+use Rattle.evaluate.proofs.RelationLaws.{merged-by}
 use borrow.Author.Needs.{needs}
 use Rattle.evaluate.proofs.relation.merge.Statement.{statement}
 use Rattle.evaluate.proofs.relation.merge.Tie as tie
 
-abbrev Inv-loop : tie.InvT-loop
-Inv-loop rows₀ r s j₀ rows j = (j ≤ setWords) × Filled (mergedWord rows₀ r s) (r * setWords) j rows₀ rows
+shared-row-requires : tie.Need-shared-row-requires
+shared-row-requires c κs = search needs
 
-abbrev μ-loop : tie.MeasureT-loop
-μ-loop rows₀ r s j₀ rows j = setWords - j
+join-requires : tie.Need-join-requires
+join-requires c κs = search needs
 
-loop-holds : tie.Need-loop-holds Inv-loop μ-loop
-loop-holds c = (omega arith, filled-none)
-
-mul-k : tie.Need-mul-k Inv-loop μ-loop
-mul-k c = search needs
-
-add-k : tie.Need-add-k Inv-loop μ-loop
-add-k c = search needs
-
-mul-i : tie.Need-mul-i Inv-loop μ-loop
-mul-i c = search needs
-
-add-i : tie.Need-add-i Inv-loop μ-loop
-add-i c = search needs
-
-mul-rows : tie.Need-mul-rows Inv-loop μ-loop
-mul-rows c = search needs
-
-slice-read-rows : tie.Need-slice-read-rows Inv-loop μ-loop
-slice-read-rows c = search needs
-
-mul-rows-2 : tie.Need-mul-rows-2 Inv-loop μ-loop
-mul-rows-2 c = search needs
-
-slice-read-rows-2 : tie.Need-slice-read-rows-2 Inv-loop μ-loop
-slice-read-rows-2 c = search needs
-
-mul-rows-3 : tie.Need-mul-rows-3 Inv-loop μ-loop
-mul-rows-3 c = search needs
-
-slice-write-rows : tie.Need-slice-write-rows Inv-loop μ-loop
-slice-write-rows c = search needs
-
-add-j : tie.Need-add-j Inv-loop μ-loop
-add-j c = search needs
-
-loop-less : tie.Need-loop-less Inv-loop μ-loop
-loop-less c = search needs
-
-loop-again : tie.Need-loop-again Inv-loop μ-loop
-loop-again c = (omega arith, filled-more (c .before .before .before .loop .inv .1) refl (omega arith) (merging-word (c .before .before .before .before .args .r) (c .before .before .before .before .args .s) (c .before .before .before .loop .inv .1) (c .before .before .loop-test .taken)))
-
-same-length : tie.Need-same-length Inv-loop μ-loop
+same-length : tie.Need-same-length
 same-length c = search needs
 
-returns : tie.Need-returns Inv-loop μ-loop
-returns c = merged-of (filled-all (c .before .loop .inv .1) (c .before .loop .inv .0) (c .loop-test .left))
+returns : tie.Need-returns
+returns c = merged-by (c .before .before .before .before .before .shared-row .ensures) (c .before .before .join .ensures)
 
 pub merge-spec : {M : Type 1} → statement M
-merge-spec =
-    tie.close
-    (tie.spec
-    Inv-loop
-    μ-loop
-    loop-holds
-    mul-k
-    add-k
-    mul-i
-    add-i
-    mul-rows
-    slice-read-rows
-    mul-rows-2
-    slice-read-rows-2
-    mul-rows-3
-    slice-write-rows
-    add-j
-    loop-less
-    loop-again
-    same-length
-    returns)
+merge-spec = tie.close (tie.spec shared-row-requires join-requires same-length returns)

@@ -1,0 +1,18 @@
+-- An accepted state has no more objects than the largest (objects-room).
+use Rattle.evaluate.proofs.FactLaws.{objects-room}
+use native.Mathlib.Omega.{arith}
+use borrow.Author.Needs.{needs}
+use Rattle.evaluate.proofs.with_all.Statement.{statement}
+use Rattle.evaluate.proofs.with_all.Tie as tie
+
+slice-aggregate-evaluate-in : tie.Need-slice-aggregate-evaluate-in
+slice-aggregate-evaluate-in c = search needs
+
+evaluate-in-requires : tie.Need-evaluate-in-requires
+evaluate-in-requires c κs = let ok = c .before .before .before .pre in (ok, record { room = λ t. omega (arith, objects-room ok); few = omega arith })
+
+returns : tie.Need-returns
+returns c = search needs
+
+pub with-all-spec : {M : Type 1} → statement M
+with-all-spec = tie.close (tie.spec slice-aggregate-evaluate-in evaluate-in-requires returns)
