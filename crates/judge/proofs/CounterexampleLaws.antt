@@ -17,15 +17,16 @@ use Rattle.evaluate.specs.Selection.{Selection}
 use Rattle.judge.specs.declared.counterexample.CounterexampleAnswer.the-variants.{No, Yes}
 use Rattle.judge.specs.Counterexample.{separates, lowest, finding, apart}
 
+-- an object's bit
+pub selected-bit : (I : State) (C : Concept) (ws : List ℕ) → Selection I C ws → I .size ≤ objectPart → (d : ℕ) → d < I .size → bitAt ws d ≡ isIn I C d
+selected-bit I C ws z few d h = z .bits d (omega arith) ∙ rw (lt-ltb d (I .size) h)
+
 -- the search over the two sets is that over the concepts
 pub lowest-is : (I : State) (query view : Concept) (inside outside : List ℕ) → Selection I query inside → Selection I view outside → I .size ≤ objectPart
     → least (I .size) (apart inside outside) ≡ lowest I query view
 lowest-is I query view inside outside q v few =
     least-same (apart inside outside) (separates I query view) (I .size)
-    (λ d h. ap₂ (λ (a b : Bool). a && not b) (same inside query q d h) (same outside view v d h))
-  where
-    same : (ws : List ℕ) (C : Concept) → Selection I C ws → (d : ℕ) → d < I .size → bitAt ws d ≡ isIn I C d
-    same ws C z d h = z .bits d (omega arith) ∙ rw (lt-ltb d (I .size) h)
+    (λ d h. ap₂ (λ (a b : Bool). a && not b) (selected-bit I query inside q few d h) (selected-bit I view outside v few d h))
 
 module _ (S : Schema) (I : State) (query view : Concept) where
   pub find-illegal : (firstBroken S I ≡ S .axioms → ⊥) → No ≡ finding S I query view

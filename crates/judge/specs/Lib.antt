@@ -4,3 +4,5 @@ pub mod LegalState
 pub mod Counterexample
 -- What these answers mean, in the terms of the definitions.
 pub mod Exact
+-- What the decider relies on.
+pub mod Member

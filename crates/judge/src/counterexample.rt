@@ -1,4 +1,5 @@
 // Counterexample: the lowest object of a legal state that is in the query and outside the view.
+use evaluate::layout::SET_WORDS;
 use records::concept::ConceptAnswer;
 use records::concept::check_query;
 use records::concept::check_view;
@@ -25,7 +26,7 @@ pub enum CounterexampleAnswer {
 }
 
 // The lowest number below `n` in the first set and not in the second, or `n`.
-fn lowest(query: &[u64; 8], view: &[u64; 8], n: usize) -> usize
+fn lowest(query: &[u64; SET_WORDS], view: &[u64; 8], n: usize) -> usize
     ensures { λ r. ⌜ r ≡ least n (apart (now (query .entry)) (now (view .entry))) ⌝ }
 {
     for d in 0..n {

@@ -2,4 +2,5 @@
 // takes arbitrary words, refuses faulty records by number, and promises its answer for every input (specs/).
 pub mod counterexample;
 pub mod legal;
+pub mod member;
 pub mod select;

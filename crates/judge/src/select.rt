@@ -1,4 +1,5 @@
 // Select: which objects of a state are in a concept, as words that the caller lends.
+use evaluate::layout::SET_WORDS;
 use records::concept::ConceptAnswer;
 use records::concept::check_query;
 use records::schema::SchemaAnswer;
@@ -22,7 +23,7 @@ pub enum SelectAnswer {
 }
 
 // Writes 1 or 0 for each of the first `n` numbers, by whether the set has it, and counts the ones.
-fn mark(set: &[u64; 8], n: usize, lent: &mut [u16]) -> usize
+fn mark(set: &[u64; SET_WORDS], n: usize, lent: &mut [u16]) -> usize
     requires { ⌜ n ≤ length (now lent) ⌝ }
     ensures count { λ r. ⌜ r ≡ count n (bitAt (now (set .entry))) ⌝ }
     ensures words { λ r. ⌜ now (lent .exit) ≡ marks (bitAt (now (set .entry))) n ++ drop n (now (lent .entry)) ⌝ }
