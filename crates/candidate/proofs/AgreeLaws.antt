@@ -1,12 +1,11 @@
 -- The facts depend on the ground through its objects, class sets and edges alone. So those of the arrays are those of the
--- task whose ground and made part the arrays hold (candidate-written).
+-- task whose ground and made part the arrays hold (facts-are).
 use Prim.Native.Nat.{ℕ, zero, suc, _+_, _≤_}
 use native.Mathlib.Omega.{arith}
 use mathlib.Core.Bool.{Bool, cond}
 use mathlib.Core.List.{List, [], _∷_, _++_}
 use mathlib.Core.Path.{_≡_, refl, sym, ap, ap₂, _∙_}
 use lib.Dec.{ltb}
-use lib.ListN.{length, take}
 use Rattle.records.specs.Layout.{querySteps, viewSteps, maxConstants, maxObjects, attributeKinds}
 use Rattle.records.specs.Schema.{Schema}
 use Rattle.records.specs.SchemaRecord.{schemaOf}
@@ -20,20 +19,15 @@ use Rattle.chase.specs.Forest.{Forest}
 use Rattle.chase.specs.Candidate.{objects, forest}
 use Rattle.chase.specs.Written.{gather, nameFact, classFacts, pairFacts, objectFacts, facts}
 use Rattle.chase.proofs.Answers.{is-small}
+use Rattle.chase.proofs.GatherLaws.{gather-each}
 use Rattle.primary.specs.Formed.{prime}
 use Rattle.ground.specs.Agrees.{Agrees}
 use Rattle.ground.specs.Objects.{groundIn, forestIn}
 use Rattle.ground.proofs.GroundLaws.{constant-object}
 use Rattle.forest.proofs.SameLaws.{size-same, kid-same, classesOf-same, links-same, lacks-same, objects-same}
-use Rattle.candidate.specs.Writing.{Wrote, factIf}
+use Rattle.candidate.specs.Writing.{factIf}
 use Rattle.candidate.specs.Facts.{valueFacts, linkFact, linkFacts, valueAt, classRow, nameFacts, factsIn}
-use Rattle.candidate.proofs.WriteLaws.{wrote-start}
 use Rattle.candidate.proofs.PairLaws.{pair-parts}
-
-gather-each : (f g : ℕ → List ℕ) → ((i : ℕ) → f i ≡ g i) → (n : ℕ) → gather n f ≡ gather n g
-unfolding gather
-gather-each f g h zero = refl
-gather-each f g h (suc n) = ap₂ _++_ (gather-each f g h n) (h n)
 
 class-same : (G H : Ground) → G .objects ≡ H .objects → G .sets ≡ H .sets → (S : Schema) (T : Forest) (A d : ℕ)
     → classFacts S G T A d ≡ classFacts S H T A d
@@ -88,7 +82,7 @@ module _ (t : Task) (schema edges words : List ℕ) (g n : ℕ) (is : schemaOf s
       → objects (schemaOf schema) (groundIn g words edges) (forestIn g n words) ≤ maxObjects
   objects-few formed q v c = omega (arith, objects-are, is-small t formed q v c)
 
-  facts-are : (reps sets : List ℕ) → prime reps sets ≡ primary t
+  pub facts-are : (reps sets : List ℕ) → prime reps sets ≡ primary t
       → factsIn schema reps (suc (conceptSteps (t .query))) edges g n words ≡ facts (t .schema) (ground t) (forest t)
   unfolding facts
   facts-are reps sets q =
@@ -97,12 +91,3 @@ module _ (t : Task) (schema edges words : List ℕ) (g n : ℕ) (is : schemaOf s
       ∙ facts-same (groundIn g words edges) (ground t) same (t .schema) (forest t))
       (ap (λ (S : Schema). nameFacts reps (suc (conceptSteps (t .query))) (S .signature .constants)) is
       ∙ gather-each _ _ (λ a. ap (λ (d : ℕ). nameFact a d ∷ []) (constant-object t reps sets q a)) (t .schema .signature .constants))
-
-  -- what is written is the task's candidate
-  pub candidate-written : (reps sets out after : List ℕ) (r : ℕ) → prime reps sets ≡ primary t
-      → Wrote 0 (factsIn schema reps (suc (conceptSteps (t .query))) edges g n words) out r after
-      → (take r after ≡ facts (t .schema) (ground t) (forest t)) × (r ≡ length (facts (t .schema) (ground t) (forest t)))
-  candidate-written reps sets out after r q a =
-      let e = facts-are reps sets q in
-      let b = wrote-start (factsIn schema reps (suc (conceptSteps (t .query))) edges g n words) out r after a in
-      (b .0 ∙ e, b .1 ∙ ap length e)

@@ -2,22 +2,20 @@
 use Prim.Native.Nat.{ℕ, zero, suc, _+_, _-_, _≤_, _<_}
 use native.Mathlib.Numerals.{add-one}
 use native.Mathlib.Omega.{arith}
-use mathlib.Core.Bool.{Bool, true, false, So, cond, not, _&&_, _||_, and-false, or-false as or-false-right}
+use mathlib.Core.Bool.{Bool, false, cond, _&&_, _||_}
 use mathlib.Core.List.{List, [], _∷_, _++_, map, map-append, append-nil}
 use mathlib.Core.Path.{_≡_, refl, sym, ap, ap₂, subst, _∙_}
 use lib.Dec.{eqb, ltb}
 use lib.ListN.{length, getD, set, take}
 use lib.Seq.{take-all}
 use borrow.Author.Tests.{lt-ltb, le-ltb}
-use Rattle.records.specs.Layout.{maxFacts, attributeKinds}
+use Rattle.records.specs.Layout.{attributeKinds}
 use Rattle.records.specs.Schema.{Schema}
 use Rattle.records.specs.Encoding.{fact}
 use Rattle.chase.specs.Loops.{anyOf, upto}
-use Rattle.chase.specs.Axioms.{collect, needsBy, needs}
-use Rattle.chase.specs.ClassSet.{meets}
 use Rattle.chase.specs.Facts.{Edge}
 use Rattle.chase.specs.Ground.{Ground, listing}
-use Rattle.chase.specs.Forest.{Forest, size, kid, push, asks, classesOf, lacks}
+use Rattle.chase.specs.Forest.{Forest, size, kid, push, asks, lacks}
 use Rattle.chase.specs.Candidate.{links}
 use Rattle.chase.specs.Targets.{targets}
 use Rattle.chase.specs.Written.{gather, pairFacts}
@@ -76,11 +74,8 @@ unasked-facts G P d h =
     gather-empty (linkFact G P d)
     (λ e. ap (λ (b : Bool). factIf b (fact (attributeKinds + P) d e)) (asked-by P d e (G .edges) h)) (G .objects)
 
-pub unasked-wrote : (G : Ground) (P d k : ℕ) (out : List ℕ) → asks G P d ≡ false → Room k (linkFacts G P d) out
-    → Wrote k (linkFacts G P d) out k out
-unasked-wrote G P d k out h room =
-    let e = unasked-facts G P d h in
-    wrote-as k k [] (linkFacts G P d) out out (sym e) (wrote-none k out (room-as k [] (linkFacts G P d) out (sym e) room))
+pub unasked-wrote : (G : Ground) (P d k : ℕ) (out : List ℕ) → asks G P d ≡ false → Wrote k (linkFacts G P d) out k out
+unasked-wrote G P d k out h = wrote-as k k [] (linkFacts G P d) out out (sym (unasked-facts G P d h)) (wrote-none k out)
 
 -- the pairs in their two parts
 listing-gather : (h : ℕ → ℕ) (test : ℕ → Bool) (n : ℕ) → map h (listing test (λ e. e) n) ≡ gather n (λ e. factIf (test e) (h e))
@@ -129,34 +124,16 @@ module _ (S : Schema) (G : Ground) (T : Forest) (P d : ℕ) where
         (wrote-then k r q (linkFacts G P d) (valueFacts P d v) out mid after a b)
 
   -- which value it is: the made one, or where there is none and it is lacking the closing object
-  abbrev Need : Bool
-  Need = needs S (classesOf S G T d) P
-
-  pub need-is : (c m : ℕ) (b : Bool) → c ≡ classesOf S G T d → m ≡ collect S (needsBy P) → b ≡ meets c m → Need ≡ b
-  unfolding needs
-  need-is c m b p q e = sym (e ∙ ap₂ meets p q)
-
   pub value-made : (v : ℕ) → v ≡ kid G T P d → 0 < v → v ≡ valueAt S G T P d
   unfolding valueAt
   value-made v q h =
       q ∙ sym (ap (λ (b : Bool). cond b (kid G T P d) (cond (lacks S G T P d) (suc (size G T)) zero)) (lt-ltb 0 (kid G T P d) (omega arith)))
 
-  value-else : (v n a : Bool) → kid G T P d ≡ 0 → Need ≡ n → asks G P d ≡ a → v ≡ (n && not a)
-      → cond v (suc (size G T)) zero ≡ valueAt S G T P d
-  unfolding valueAt lacks
-  value-else v n a k p q e =
-      let none : ltb 0 (kid G T P d) ≡ false = le-ltb 0 (kid G T P d) (omega arith) in
-      ap (λ (b : Bool). cond b (suc (size G T)) zero) (e ∙ ap₂ (λ (x y : Bool). x && not y) (sym p) (sym (ap (λ (b : Bool). b || ltb 0 (kid G T P d)) q ∙ ap (λ (b : Bool). a || b) none ∙ or-false-right a)))
-      ∙ sym (ap (λ (b : Bool). cond b (kid G T P d) (cond (lacks S G T P d) (suc (size G T)) zero)) none)
-
-  pub value-idle : kid G T P d ≡ 0 → Need ≡ false → 0 ≡ valueAt S G T P d
-  value-idle k p = value-else false false (asks G P d) k p refl refl
-
-  pub value-asked : kid G T P d ≡ 0 → So (asks G P d) → 0 ≡ valueAt S G T P d
-  value-asked k q = value-else false Need true k refl q (sym (and-false Need))
-
-  pub value-lacks : kid G T P d ≡ 0 → So Need → asks G P d ≡ false → suc (size G T) ≡ valueAt S G T P d
-  value-lacks k p q = value-else true true false k p q refl
+  pub value-else : (b : Bool) → kid G T P d ≡ 0 → b ≡ lacks S G T P d → cond b (suc (size G T)) zero ≡ valueAt S G T P d
+  unfolding valueAt
+  value-else b k e =
+      ap (λ (t : Bool). cond t (suc (size G T)) zero) e
+      ∙ sym (ap (λ (t : Bool). cond t (kid G T P d) (cond (lacks S G T P d) (suc (size G T)) zero)) (le-ltb 0 (kid G T P d) (omega arith)))
 
 pub value-bound : (S : Schema) (G : Ground) (T : Forest) (P d : ℕ) → valueAt S G T P d ≤ suc (size G T)
 unfolding valueAt
@@ -166,13 +143,14 @@ value-bound S G T P d =
 
 -- the pair to it, by whether there is one
 module _ (k P d : ℕ) (out : List ℕ) where
-  pub value-off : (v : ℕ) → v ≡ 0 → Room k (valueFacts P d v) out → Wrote k (valueFacts P d v) out k out
-  value-off zero e room = wrote-none k out room
-  value-off (suc v) e room = absurd (omega arith)
+  pub value-off : (v : ℕ) → v ≡ 0 → Wrote k (valueFacts P d v) out k out
+  value-off zero e = wrote-none k out
+  value-off (suc v) e = absurd (omega arith)
 
-  pub value-room : (v : ℕ) → (v ≡ 0 → ⊥) → Room k (valueFacts P d v) out → k < maxFacts
+  pub value-room : (v : ℕ) → (v ≡ 0 → ⊥) → Room k (valueFacts P d v) out → k < length out
+  unfolding Room
   value-room zero n room = absurd (n refl)
-  value-room (suc v) n room = omega (arith, room .fits)
+  value-room (suc v) n room = omega (arith, room)
 
   pub value-on : (v f : ℕ) → (v ≡ 0 → ⊥) → f ≡ fact (attributeKinds + P) d (v - 1) → Room k (valueFacts P d v) out
       → Wrote k (valueFacts P d v) out (k + 1) (set out k f)

@@ -5,9 +5,10 @@ use mathlib.Core.List.{List, [], _++_}
 use mathlib.Core.Path.{_≡_, refl, sym, ap, subst, _∙_}
 use lib.ListN.{length}
 use Rattle.records.specs.declared.schema.Signature.{Signature}
-use Rattle.records.specs.Layout.{maxClasses, maxAttributes, maxConstants, maxFacts}
+use Rattle.records.specs.Layout.{maxClasses, maxAttributes, maxConstants}
 use Rattle.records.specs.Schema.{Schema}
 use Rattle.records.specs.SchemaRecord.{schemaOf}
+use Rattle.chase.specs.Bounds.{mostFacts}
 use Rattle.chase.specs.Ground.{Ground}
 use Rattle.chase.specs.Forest.{Forest}
 use Rattle.chase.specs.Written.{gather, objectFacts}
@@ -15,48 +16,55 @@ use Rattle.records.proofs.AcceptedLaws.{passes-1}
 use Rattle.chase.proofs.AcceptanceLaws.{accepted-signature}
 use Rattle.ground.specs.Objects.{groundIn, forestIn}
 use Rattle.forest.proofs.ObjectLaws.{size-laid}
+use Rattle.candidate.specs.declared.number.Sizes.{Sizes}
 use Rattle.candidate.specs.Writing.{Room, Wrote}
-use Rattle.candidate.specs.Facts.{classRow, pairRow, nameFacts, factsIn}
-use Rattle.candidate.specs.Ready.{Ready}
+use Rattle.candidate.specs.Facts.{classRow, pairRow, membersIn, pairsIn, nameFacts, factsIn}
+use Rattle.candidate.specs.Ready.{Ready, Sized}
 use Rattle.candidate.proofs.WriteLaws.{room-first, room-next, room-as, wrote-as, wrote-then}
 use Rattle.candidate.proofs.SearchLaws.{objects-bound}
 use Rattle.candidate.proofs.BoundLaws.{facts-fit}
 use Rattle.candidate.proofs.AgreeLaws.{members-same}
 
-module _ (schema reps : List ℕ) (first : ℕ) (edges words : List ℕ) (g n total : ℕ) (ready : Ready schema reps first edges words g n total)
+module _ (schema reps : List ℕ) (first : ℕ) (edges words : List ℕ) (z : Sizes) (ready : Ready schema reps first edges words z)
     (s : Signature) (is : s ≡ schemaOf schema .signature) where
   abbrev S : Schema
   S = schemaOf schema
 
   abbrev G : Ground
-  G = groundIn g words edges
+  G = groundIn (z .ground) words edges
 
   abbrev T : Forest
-  T = forestIn g n words
+  T = forestIn (z .ground) (z .made) words
 
   abbrev members : List ℕ
-  members = gather (s .classes) (classRow (schemaOf schema) (groundIn g words []) (forestIn g n words) total)
+  members = gather (s .classes) (membersIn schema words z)
 
   abbrev pairs : List ℕ
-  pairs = gather (s .attributes) (pairRow (schemaOf schema) (groundIn g words edges) (forestIn g n words) total)
+  pairs = gather (s .attributes) (pairsIn schema edges words z)
 
   abbrev names : List ℕ
   names = nameFacts reps first (s .constants)
 
-  parts : (members ++ pairs) ++ names ≡ factsIn schema reps first edges g n words
+  parts : (members ++ pairs) ++ names ≡ factsIn schema reps first edges (z .ground) (z .made) words
   unfolding objectFacts
   parts =
-      ap (λ (l : List ℕ). (l ++ pairs) ++ names) (members-same (groundIn g words []) G refl refl S T (s .classes) total)
+      ap (λ (l : List ℕ). (l ++ pairs) ++ names) (members-same (groundIn (z .ground) words []) G refl refl S T (s .classes) (z .total))
       ∙ ap
       (λ (u : Signature).
-      (gather (u .classes) (classRow S G T total) ++ gather (u .attributes) (pairRow S G T total)) ++ nameFacts reps first (u .constants)) is
+      (gather (u .classes) (classRow S G T (z .total)) ++ gather (u .attributes) (pairRow S G T (z .total))) ++ nameFacts reps first (u .constants)) is
       ∙ ap
       (λ (m : ℕ).
       (gather (S .signature .classes) (classRow S G T m) ++ gather (S .signature .attributes) (pairRow S G T m))
       ++ nameFacts reps first (S .signature .constants)) (ready .number)
 
-  pub total-bound : total ≤ n + 1
-  total-bound = omega (arith, ready .number, objects-bound S G T, size-laid g n words (ready .kept .laid) words edges)
+  pub sized : Sized schema words z
+  sized =
+      record {
+        legal = ready .legal;
+        kept = ready .kept;
+        closing = omega (arith, ready .number, objects-bound S G T, size-laid (z .ground) (z .made) words (ready .kept .laid) words edges);
+        small = ready .small;
+      }
 
   pub limits : (s .classes ≤ maxClasses) × (s .attributes ≤ maxAttributes) × (s .constants ≤ maxConstants)
   unfolding schemaOf
@@ -67,14 +75,17 @@ module _ (schema reps : List ℕ) (first : ℕ) (edges words : List ℕ) (g n to
   pub nodes-inside : first + s .constants ≤ length reps
   nodes-inside = subst (λ (u : Signature). first + u .constants ≤ length reps) (sym is) (ready .constants)
 
-  module _ (out : List ℕ) (size : length out ≡ maxFacts) where
+  module _ (out : List ℕ) (fits : mostFacts (S .signature) (z .total) (length edges) ≤ length out) where
     room : Room 0 ((members ++ pairs) ++ names) out
+    unfolding Room
     room =
-        room-as 0 _ (factsIn schema reps first edges g n words) out parts
-        (record {
-          size = size;
-          fits = omega (arith, facts-fit schema reps edges words first g n (ready .legal) (ready .steps) (omega (arith, ready .number, ready .small)));
-        })
+        room-as 0 _ (factsIn schema reps first edges (z .ground) (z .made) words) out parts
+        (omega (
+          arith,
+          fits,
+          facts-fit schema reps edges words first (z .ground) (z .made),
+          ap (λ (m : ℕ). mostFacts (S .signature) m (length edges)) (ready .number),
+        ))
 
     pub members-room : Room 0 members out
     members-room = room-first 0 members pairs out (room-first 0 (members ++ pairs) names out room)
@@ -91,5 +102,5 @@ module _ (schema reps : List ℕ) (first : ℕ) (edges words : List ℕ) (g n to
         names-room = room-next 0 q (members ++ pairs) names out late room both
 
         pub all-wrote : (e : ℕ) (after : List ℕ) → Wrote q names late e after
-            → Wrote 0 (factsIn schema reps first edges g n words) out e after
+            → Wrote 0 (factsIn schema reps first edges (z .ground) (z .made) words) out e after
         all-wrote e after d = wrote-as 0 e _ _ out after parts (wrote-then 0 q e (members ++ pairs) names out late after both d)

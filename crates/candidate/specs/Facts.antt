@@ -15,6 +15,7 @@ use Rattle.chase.specs.Candidate.{links, objects}
 use Rattle.chase.specs.Written.{gather, nameFact, classFacts, pairFacts, objectFacts}
 use Rattle.ground.specs.Objects.{groundIn, forestIn}
 use Rattle.ground.specs.Numbers.{objectIn}
+use Rattle.candidate.specs.declared.number.Sizes.{Sizes}
 use Rattle.candidate.specs.Writing.{factIf}
 
 -- the pair of P from d to the object that a number stands for, if any
@@ -43,6 +44,15 @@ module _ (S : Schema) (G : Ground) (T : Forest) where
 
   abbrev pub pairRow : ℕ → ℕ → List ℕ
   pairRow n P = gather n (pairFacts S G T P)
+
+-- .. of the objects in an array; the edges have no part in the members
+abbrev pub membersIn : List ℕ → List ℕ → Sizes → ℕ → List ℕ
+membersIn schema objects z =
+    classRow (schemaOf schema) (groundIn (z .ground) objects []) (forestIn (z .ground) (z .made) objects) (z .total)
+
+abbrev pub pairsIn : List ℕ → List ℕ → List ℕ → Sizes → ℕ → List ℕ
+pairsIn schema edges objects z =
+    pairRow (schemaOf schema) (groundIn (z .ground) objects edges) (forestIn (z .ground) (z .made) objects) (z .total)
 
 -- the name of a constant, and of all; their nodes stand in a row from `first`
 abbrev pub nameRow : List ℕ → ℕ → ℕ → List ℕ

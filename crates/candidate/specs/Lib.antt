@@ -2,3 +2,4 @@
 pub mod Writing
 pub mod Facts
 pub mod Ready
+pub mod Tables

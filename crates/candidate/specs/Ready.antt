@@ -4,7 +4,7 @@ use Prim.Native.Nat.{ℕ, _+_, _≤_}
 use mathlib.Core.List.{List}
 use mathlib.Core.Path.{_≡_}
 use lib.ListN.{length}
-use Rattle.records.specs.Layout.{querySteps, maxObjects}
+use Rattle.records.specs.Layout.{maxObjects}
 use Rattle.records.specs.SchemaRecord.{schemaOf}
 use Rattle.records.specs.SchemaRefusal.{AcceptedSchema}
 use Rattle.chase.specs.Candidate.{objects}
@@ -12,13 +12,20 @@ use Rattle.chase.specs.Bounds.{maxNodes}
 use Rattle.ground.specs.Numbers.{Inside}
 use Rattle.ground.specs.Objects.{groundIn, forestIn}
 use Rattle.forest.specs.Kept.{Kept}
+use Rattle.candidate.specs.declared.number.Sizes.{Sizes}
 
-pub record Ready (schema reps : List ℕ) (first : ℕ) (edges words : List ℕ) (g n total : ℕ) : Type 0 where
+pub record Ready (schema reps : List ℕ) (first : ℕ) (edges words : List ℕ) (z : Sizes) : Type 0 where
   pub legal : AcceptedSchema schema
-  pub kept : Kept g n words
-  pub number : total ≡ objects (schemaOf schema) (groundIn g words edges) (forestIn g n words)
-  pub small : total ≤ maxObjects
-  pub steps : length edges ≤ querySteps
+  pub kept : Kept (z .ground) (z .made) words
+  pub number : z .total ≡ objects (schemaOf schema) (groundIn (z .ground) words edges) (forestIn (z .ground) (z .made) words)
+  pub small : z .total ≤ maxObjects
   pub inside : Inside reps
   pub nodes : length reps ≤ maxNodes
   pub constants : first + schemaOf schema .signature .constants ≤ length reps
+
+-- what the facts of the objects rely on; beside those in the array there is the closing one at most
+pub record Sized (schema words : List ℕ) (z : Sizes) : Type 0 where
+  pub legal : AcceptedSchema schema
+  pub kept : Kept (z .ground) (z .made) words
+  pub closing : z .total ≤ z .made + 1
+  pub small : z .total ≤ maxObjects

@@ -7,3 +7,4 @@ mod names;
 pub mod number;
 mod pairs;
 pub mod put;
+mod tables;

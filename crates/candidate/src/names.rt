@@ -3,7 +3,6 @@ use crate::put::fact;
 use crate::put::put_if;
 use ground::number::object_of;
 use records::state::CONSTANT_KINDS;
-use records::state::MAX_FACTS;
 ghost use Prim.Native.Nat.{_+_, _≤_};
 ghost use lib.ListN.{length};
 ghost use Rattle.records.specs.Layout.{maxConstants};
@@ -16,7 +15,7 @@ pub fn name_facts(
     reps: &[u32],
     first: usize,
     constants: usize,
-    out: &mut [u32; MAX_FACTS],
+    out: &mut [u32],
     count: usize,
 ) -> usize
     requires { ⌜ Inside (now reps) × (length (now reps) ≤ maxNodes) × (first + constants ≤ length (now reps)) × (constants ≤ maxConstants) ⌝ }

@@ -1,19 +1,46 @@
-// How many objects the candidate has: the closing object is one of them where some object lacks a value.
+// How many objects the candidate has: the closing object is one of them where some object lacks a value. How many facts it has
+// at most.
+use crate::tables::is_origin;
+use crate::tables::kids;
+use crate::tables::origins;
 use classes::collect::needs_mask;
+use classes::sets::meets;
 use forest::objects::OBJECTS;
-use forest::objects::lacks;
+use forest::objects::classes_at;
+use records::layout::wide;
+use records::schema::Signature;
 use records::schema::signature_of;
-ghost use Prim.Native.Nat.{_<_};
+ghost use Prim.Native.Nat.{_≤_};
+ghost use mathlib.Core.Bool.{_&&_, _||_, not};
 ghost use mathlib.Core.Path.{_≡_};
-ghost use Rattle.records.specs.Layout.{maxAttributes};
+ghost use lib.Dec.{ltb};
+ghost use Rattle.records.specs.Layout.{maxClasses, maxAttributes, maxConstants, maxObjects, maxFacts, querySteps};
 ghost use Rattle.records.specs.Schema.{Schema};
 ghost use Rattle.records.specs.SchemaRecord.{schemaOf};
 ghost use Rattle.records.specs.SchemaRefusal.{AcceptedSchema};
 ghost use Rattle.chase.specs.Axioms.{collect, needsBy};
+ghost use Rattle.chase.specs.Bounds.{mostFacts};
+ghost use Rattle.chase.specs.ClassSet.{meets as meetsIn};
 ghost use Rattle.chase.specs.Candidate.{lacking as lackingIn, objects as objectsIn};
 ghost use Rattle.ground.specs.Objects.{forestIn, groundIn};
 ghost use Rattle.forest.specs.Kept.{Kept};
 ghost use Rattle.candidate.specs.Facts.{lacksOne};
+
+// How many objects there are: those of the ground, those with the made ones, and all, with the closing object where there
+// is one.
+pub struct Sizes {
+    pub ground: usize,
+    pub made: usize,
+    pub total: usize,
+}
+
+// An object of these classes needs a value, and neither the query nor the made part has one. The mask has the classes that
+// need it.
+pub fn unmet(classes: u32, mask: u32, asked: bool, made: usize) -> bool
+    ensures { λ r. ⌜ r ≡ (meetsIn classes mask && not (asked || ltb 0 made)) ⌝ }
+{
+    meets(classes, mask) & !(asked | (made > 0))
+}
 
 // Some object lacks a value of the attribute. The mask has the classes that need one.
 fn lacks_one(
@@ -24,11 +51,14 @@ fn lacks_one(
     mask: u32,
     attribute: usize,
 ) -> bool
-    requires { ⌜ Kept g n (now objects) × (attribute < maxAttributes) ⌝ }
+    requires { ⌜ Kept g n (now objects) ⌝ }
     ensures { λ r. ⌜ ((S : Schema) → mask ≡ collect S (needsBy attribute) → r ≡ lacksOne S (groundIn g (now (objects .entry)) (now (edges .entry))) (forestIn g n (now (objects .entry))) attribute) ⌝ }
 {
+    let from = origins(edges, attribute);
+    let made = kids(objects, g, n, attribute);
     for d in 0..n {
-        if lacks(edges, objects, g, n, mask, attribute, d) {
+        let classes = classes_at(objects, d);
+        if unmet(classes, mask, is_origin(&from, d), wide(made[d + 1])) {
             return true;
         }
     }
@@ -64,4 +94,12 @@ pub fn count_objects(
     } else {
         n
     }
+}
+
+// So many objects have no more facts than this, beside that many pairs of the query.
+pub fn most_facts(s: Signature, objects: usize, pairs: usize) -> usize
+    requires { ⌜ (s .classes ≤ maxClasses) × (s .attributes ≤ maxAttributes) × (s .constants ≤ maxConstants) × (objects ≤ maxObjects) × (pairs ≤ querySteps) ⌝ }
+    ensures { λ r. ⌜ (r ≡ mostFacts s objects pairs) × (r ≤ maxFacts) ⌝ }
+{
+    s.classes * objects + (s.attributes * objects + pairs) + s.constants
 }

@@ -1,29 +1,32 @@
 // The facts that are pairs of attributes: those of the query, and one to the made value or to the closing object.
+use crate::number::Sizes;
+use crate::number::unmet;
 use crate::put::fact;
 use crate::put::put_if;
+use crate::tables::is_origin;
+use crate::tables::kids;
+use crate::tables::origins;
 use classes::collect::needs_mask;
-use classes::sets::meets;
 use forest::objects::OBJECTS;
-use forest::objects::asks;
 use forest::objects::classes_of;
-use forest::objects::kid;
 use primary::rules::PART;
 use records::layout::wide;
 use records::state::ATTRIBUTE_KINDS;
-use records::state::MAX_FACTS;
-ghost use Prim.Native.Nat.{ℕ, _+_, _<_, _≤_};
+ghost use Prim.Native.Nat.{ℕ, _<_, _≤_};
 ghost use mathlib.Core.List.{List, []};
 ghost use mathlib.Core.Path.{_≡_};
 ghost use Rattle.records.specs.Layout.{maxAttributes, maxObjects, objectPart};
 ghost use Rattle.records.specs.SchemaRecord.{schemaOf};
 ghost use Rattle.records.specs.SchemaRefusal.{AcceptedSchema};
-ghost use Rattle.chase.specs.Axioms.{collect, needsBy};
 ghost use Rattle.chase.specs.Candidate.{links};
-ghost use Rattle.chase.specs.Written.{gather, pairFacts};
+ghost use Rattle.chase.specs.Forest.{asks};
+ghost use Rattle.chase.specs.Written.{gather};
 ghost use Rattle.ground.specs.Objects.{forestIn, groundIn};
 ghost use Rattle.forest.specs.Kept.{Kept};
 ghost use Rattle.candidate.specs.Writing.{Room, Wrote};
-ghost use Rattle.candidate.specs.Facts.{valueFacts, linkFacts, valueAt, pairRow};
+ghost use Rattle.candidate.specs.Facts.{valueFacts, linkFacts, valueAt, pairsIn};
+ghost use Rattle.candidate.specs.Ready.{Sized};
+ghost use Rattle.candidate.specs.Tables.{LookedUp};
 
 // The query has the pair (d, e) of the attribute.
 fn linked(edges: &[u16], attribute: usize, d: usize, e: usize) -> bool
@@ -44,7 +47,7 @@ fn link_facts(
     g: usize,
     attribute: usize,
     d: usize,
-    out: &mut [u32; MAX_FACTS],
+    out: &mut [u32],
     count: usize,
 ) -> usize
     requires { ⌜ (g ≤ maxObjects) × (attribute < maxAttributes) × (d < objectPart) ⌝ }
@@ -59,61 +62,52 @@ fn link_facts(
     at
 }
 
-// .. with one look at the edges where there are none.
+// .. where there are any.
 fn asked_facts(
+    asked: bool,
     edges: &[u16],
     g: usize,
     attribute: usize,
     d: usize,
-    out: &mut [u32; MAX_FACTS],
+    out: &mut [u32],
     count: usize,
 ) -> usize
-    requires { ⌜ (g ≤ maxObjects) × (attribute < maxAttributes) × (d < objectPart) ⌝ }
+    requires { ⌜ (g ≤ maxObjects) × (attribute < maxAttributes) × (d < objectPart) × (asked ≡ asks (groundIn g [] (now edges)) attribute d) ⌝ }
     requires { ⌜ Room count (linkFacts (groundIn g [] (now edges)) attribute d) (now out) ⌝ }
     ensures { λ r. ⌜ Wrote count (linkFacts (groundIn g [] (now (edges .entry))) attribute d) (now (out .entry)) r (now (out .exit)) ⌝ }
 {
-    if !asks(edges, attribute, d) {
+    if !asked {
         return count;
     }
     link_facts(edges, g, attribute, d, out, count)
 }
 
 // The value that is not the query's: the made one, or the closing object where one is lacking; 0 for none, e + 1 for object
-// e. The mask has the classes that need a value.
+// e. Of the attribute there is what was looked up.
 fn value_of(
     schema: &[u16],
-    edges: &[u16],
     objects: &[u64; OBJECTS],
-    g: usize,
-    n: usize,
+    sizes: Sizes,
     mask: u32,
-    attribute: usize,
+    asked: bool,
+    made: usize,
     d: usize,
 ) -> usize
-    requires { ⌜ AcceptedSchema (now schema) × Kept g n (now objects) × (attribute < maxAttributes) × (d ≤ n) × (mask ≡ collect (schemaOf (now schema)) (needsBy attribute)) ⌝ }
-    ensures { λ r. ⌜ r ≡ valueAt (schemaOf (now (schema .entry))) (groundIn g (now (objects .entry)) (now (edges .entry))) (forestIn g n (now (objects .entry))) attribute d ⌝ }
+    requires { ⌜ AcceptedSchema (now schema) × Kept (sizes .ground) (sizes .made) (now objects) × (d ≤ sizes .made) ⌝ }
+    ensures { λ r. ⌜ ((edges : List ℕ) (P : ℕ) → LookedUp (schemaOf (now (schema .entry))) (groundIn (sizes .ground) (now (objects .entry)) edges) (forestIn (sizes .ground) (sizes .made) (now (objects .entry))) P d mask asked made → r ≡ valueAt (schemaOf (now (schema .entry))) (groundIn (sizes .ground) (now (objects .entry)) edges) (forestIn (sizes .ground) (sizes .made) (now (objects .entry))) P d) ⌝ }
 {
-    let made = kid(objects, g, n, attribute, d);
     if made > 0 {
         return made;
     }
-    if !meets(classes_of(schema, objects, g, n, d), mask) {
+    let classes = classes_of(schema, objects, sizes.ground, sizes.made, d);
+    if !unmet(classes, mask, asked, made) {
         return 0;
     }
-    if asks(edges, attribute, d) {
-        return 0;
-    }
-    n + 1
+    sizes.made + 1
 }
 
 // The pair to the object that a number stands for, if any.
-fn value_facts(
-    value: usize,
-    attribute: usize,
-    d: usize,
-    out: &mut [u32; MAX_FACTS],
-    count: usize,
-) -> usize
+fn value_facts(value: usize, attribute: usize, d: usize, out: &mut [u32], count: usize) -> usize
     requires { ⌜ (value ≤ objectPart) × (attribute < maxAttributes) × (d < objectPart) ⌝ }
     requires { ⌜ Room count (valueFacts attribute d value) (now out) ⌝ }
     ensures { λ r. ⌜ Wrote count (valueFacts attribute d value) (now (out .entry)) r (now (out .exit)) ⌝ }
@@ -125,48 +119,30 @@ fn value_facts(
     count + 1
 }
 
-// All pairs of the attribute from an object.
-fn pair_facts(
-    schema: &[u16],
-    edges: &[u16],
-    objects: &[u64; OBJECTS],
-    g: usize,
-    n: usize,
-    mask: u32,
-    attribute: usize,
-    d: usize,
-    out: &mut [u32; MAX_FACTS],
-    count: usize,
-) -> usize
-    requires { ⌜ AcceptedSchema (now schema) × Kept g n (now objects) × (attribute < maxAttributes) × (d ≤ n) × (mask ≡ collect (schemaOf (now schema)) (needsBy attribute)) ⌝ }
-    requires { ⌜ Room count (pairFacts (schemaOf (now schema)) (groundIn g (now objects) (now edges)) (forestIn g n (now objects)) attribute d) (now out) ⌝ }
-    ensures { λ r. ⌜ Wrote count (pairFacts (schemaOf (now (schema .entry))) (groundIn g (now (objects .entry)) (now (edges .entry))) (forestIn g n (now (objects .entry))) attribute d) (now (out .entry)) r (now (out .exit)) ⌝ }
-{
-    let at = asked_facts(edges, g, attribute, d, out, count);
-    let value = value_of(schema, edges, objects, g, n, mask, attribute, d);
-    value_facts(value, attribute, d, out, at)
-}
-
-// The pairs of an attribute, from the first `total` objects.
+// All pairs of an attribute: of each object the query's, then the one value more.
 fn pair_row(
     schema: &[u16],
     edges: &[u16],
     objects: &[u64; OBJECTS],
-    g: usize,
-    n: usize,
-    total: usize,
+    sizes: Sizes,
     attribute: usize,
-    out: &mut [u32; MAX_FACTS],
+    out: &mut [u32],
     count: usize,
 ) -> usize
-    requires { ⌜ AcceptedSchema (now schema) × Kept g n (now objects) × (total ≤ n + 1) × (attribute < maxAttributes) ⌝ }
-    requires { ⌜ Room count (pairRow (schemaOf (now schema)) (groundIn g (now objects) (now edges)) (forestIn g n (now objects)) total attribute) (now out) ⌝ }
-    ensures { λ r. ⌜ Wrote count (pairRow (schemaOf (now (schema .entry))) (groundIn g (now (objects .entry)) (now (edges .entry))) (forestIn g n (now (objects .entry))) total attribute) (now (out .entry)) r (now (out .exit)) ⌝ }
+    requires { ⌜ Sized (now schema) (now objects) sizes × (attribute < maxAttributes) ⌝ }
+    requires { ⌜ Room count (pairsIn (now schema) (now edges) (now objects) sizes attribute) (now out) ⌝ }
+    ensures { λ r. ⌜ Wrote count (pairsIn (now (schema .entry)) (now (edges .entry)) (now (objects .entry)) sizes attribute) (now (out .entry)) r (now (out .exit)) ⌝ }
 {
     let mask = needs_mask(schema, attribute);
+    let from = origins(edges, attribute);
+    let made = kids(objects, sizes.ground, sizes.made, attribute);
+    let total = sizes.total;
     let mut at = count;
     for d in 0..total {
-        at = pair_facts(schema, edges, objects, g, n, mask, attribute, d, out, at);
+        let asked = is_origin(&from, d);
+        let linked = asked_facts(asked, edges, sizes.ground, attribute, d, out, at);
+        let value = value_of(schema, objects, sizes, mask, asked, wide(made[d + 1]), d);
+        at = value_facts(value, attribute, d, out, linked);
     }
     at
 }
@@ -176,20 +152,18 @@ pub fn pair_rows(
     schema: &[u16],
     edges: &[u16],
     objects: &[u64; OBJECTS],
-    g: usize,
-    n: usize,
-    total: usize,
+    sizes: Sizes,
     attributes: usize,
-    out: &mut [u32; MAX_FACTS],
+    out: &mut [u32],
     count: usize,
 ) -> usize
-    requires { ⌜ AcceptedSchema (now schema) × Kept g n (now objects) × (total ≤ n + 1) × (attributes ≤ maxAttributes) ⌝ }
-    requires { ⌜ Room count (gather attributes (pairRow (schemaOf (now schema)) (groundIn g (now objects) (now edges)) (forestIn g n (now objects)) total)) (now out) ⌝ }
-    ensures { λ r. ⌜ Wrote count (gather attributes (pairRow (schemaOf (now (schema .entry))) (groundIn g (now (objects .entry)) (now (edges .entry))) (forestIn g n (now (objects .entry))) total)) (now (out .entry)) r (now (out .exit)) ⌝ }
+    requires { ⌜ Sized (now schema) (now objects) sizes × (attributes ≤ maxAttributes) ⌝ }
+    requires { ⌜ Room count (gather attributes (pairsIn (now schema) (now edges) (now objects) sizes)) (now out) ⌝ }
+    ensures { λ r. ⌜ Wrote count (gather attributes (pairsIn (now (schema .entry)) (now (edges .entry)) (now (objects .entry)) sizes)) (now (out .entry)) r (now (out .exit)) ⌝ }
 {
     let mut at = count;
     for attribute in 0..attributes {
-        at = pair_row(schema, edges, objects, g, n, total, attribute, out, at);
+        at = pair_row(schema, edges, objects, sizes, attribute, out, at);
     }
     at
 }

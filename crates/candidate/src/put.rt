@@ -1,5 +1,4 @@
 // Facts as numbers, and the lent list to which they are written.
-use records::state::MAX_FACTS;
 use records::state::OBJECT_PART;
 use records::state::WORD_PART;
 ghost use mathlib.Core.Path.{_≡_};
@@ -16,7 +15,7 @@ pub fn fact(kind: usize, d: usize, right: usize) -> u32
 }
 
 // The fact, if the test passes, at `count`. Returns the count after it.
-pub fn put_if(test: bool, fact: u32, out: &mut [u32; MAX_FACTS], count: usize) -> usize
+pub fn put_if(test: bool, fact: u32, out: &mut [u32], count: usize) -> usize
     requires { ⌜ Room count (factIf test fact) (now out) ⌝ }
     ensures { λ r. ⌜ Wrote count (factIf test fact) (now (out .entry)) r (now (out .exit)) ⌝ }
 {

@@ -8,8 +8,6 @@ use Rattle.records.proofs.General.FiniteLaws.{any-zero, any-still}
 use Rattle.records.specs.Finite.{any}
 use Rattle.records.specs.SchemaRecord.{schemaOf}
 use Rattle.records.specs.declared.schema.Signature.{Signature}
-use Rattle.records.proofs.AcceptedLaws.{passes-1}
-use Rattle.chase.proofs.AcceptanceLaws.{accepted-signature}
 use Rattle.candidate.proofs.SearchLaws.{lacking-found, lacking-none}
 use Rattle.candidate.specs.Facts.{lacksOne}
 use Rattle.ground.specs.Objects.{groundIn, forestIn}
@@ -36,11 +34,10 @@ needs-mask-requires : tie.Need-needs-mask-requires Inv-loop μ-loop
 needs-mask-requires c κs = c .before .before .before .before .before .pre .0
 
 lacks-one-requires : tie.Need-lacks-one-requires Inv-loop μ-loop
-unfolding schemaOf
-lacks-one-requires c κs = (c .before .before .before .before .before .before .pre .1, omega (arith, c .before .before .loop .inv .1, accepted-signature (c .before .before .before .before .before .before .args .schema .now) (passes-1 (c .before .before .before .before .before .before .args .schema .now) (c .before .before .before .before .before .before .pre .0))))
+lacks-one-requires c κs = c .before .before .before .before .before .before .pre .1
 
 returns : tie.Need-returns Inv-loop μ-loop
-returns c = lacking-found (schemaOf (c .before .before .before .before .before .before .before .before .args .schema .now)) (groundIn (c .before .before .before .before .before .before .before .before .args .g) (c .before .before .before .before .before .before .before .before .args .objects .now) (c .before .before .before .before .before .before .before .before .args .edges .now)) (forestIn (c .before .before .before .before .before .before .before .before .args .g) (c .before .before .before .before .before .before .before .before .args .n) (c .before .before .before .before .before .before .before .before .args .objects .now)) _ (omega (arith, c .before .before .before .before .loop .inv .1)) (sym (c .before .lacks-one .ensures _ (c .before .before .needs-mask .ensures)) ∙ c .if1 .taken)
+returns c = lacking-found _ _ _ _ (omega (arith, c .before .before .before .before .loop .inv .1)) (sym (c .before .lacks-one .ensures _ (c .before .before .needs-mask .ensures)) ∙ c .if1 .taken)
 
 add-attribute : tie.Need-add-attribute Inv-loop μ-loop
 add-attribute c = search needs
@@ -49,10 +46,10 @@ loop-less : tie.Need-loop-less Inv-loop μ-loop
 loop-less c = omega arith
 
 loop-again : tie.Need-loop-again Inv-loop μ-loop
-loop-again c = (omega arith, c .before .before .before .before .loop .inv .1, any-still (lacksOne (schemaOf (c .before .before .before .before .before .before .before .before .args .schema .now)) (groundIn (c .before .before .before .before .before .before .before .before .args .g) (c .before .before .before .before .before .before .before .before .args .objects .now) (c .before .before .before .before .before .before .before .before .args .edges .now)) (forestIn (c .before .before .before .before .before .before .before .before .args .g) (c .before .before .before .before .before .before .before .before .args .n) (c .before .before .before .before .before .before .before .before .args .objects .now))) _ (c .before .before .before .before .loop .inv .2) (sym (c .before .lacks-one .ensures _ (c .before .before .needs-mask .ensures)) ∙ c .if1 .left))
+loop-again c = (omega arith, c .before .before .before .before .loop .inv .1, any-still (lacksOne _ _ _) _ (c .before .before .before .before .loop .inv .2) (sym (c .before .lacks-one .ensures _ (c .before .before .needs-mask .ensures)) ∙ c .if1 .left))
 
 returns-2 : tie.Need-returns-2 Inv-loop μ-loop
-returns-2 c = lacking-none (schemaOf (c .before .before .before .before .before .args .schema .now)) (groundIn (c .before .before .before .before .before .args .g) (c .before .before .before .before .before .args .objects .now) (c .before .before .before .before .before .args .edges .now)) (forestIn (c .before .before .before .before .before .args .g) (c .before .before .before .before .before .args .n) (c .before .before .before .before .before .args .objects .now)) _ _ (c .before .loop .inv .1) (c .before .loop .inv .0) (c .loop-test .left) (c .before .loop .inv .2)
+returns-2 c = lacking-none _ _ _ _ _ (c .before .loop .inv .1) (c .before .loop .inv .0) (c .loop-test .left) (c .before .loop .inv .2)
 
 pub lacking-spec : {M : Type 1} → statement M
 lacking-spec =

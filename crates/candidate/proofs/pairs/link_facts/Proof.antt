@@ -21,31 +21,40 @@ abbrev μ-loop : tie.MeasureT-loop
 μ-loop edges g attribute d out₀ count at₀ e₀ out at e = g - e
 
 loop-holds : tie.Need-loop-holds Inv-loop μ-loop
-loop-holds c = (omega arith, turn-none (linkFact (groundIn (c .before .args .g) [] (c .before .args .edges .now)) (c .before .args .attribute) (c .before .args .d)) _ _ _ (c .before .pre .1))
+loop-holds c = (omega arith, turn-none _ _ _)
 
 linked-requires : tie.Need-linked-requires Inv-loop μ-loop
 linked-requires c κs = tt
 
 add-fact : tie.Need-add-fact Inv-loop μ-loop
-add-fact c = omega (arith, c .before .before .before .before .pre .0 .1)
+add-fact c = omega (arith, c .before .before .before .before .before .pre .0 .1)
 
 fact-requires : tie.Need-fact-requires Inv-loop μ-loop
-fact-requires c κs = (omega (arith, c .before .before .before .before .pre .0 .1), c .before .before .before .before .pre .0 .2, omega (arith, c .before .before .before .before .pre .0 .0))
+fact-requires c κs = let p = c .before .before .before .before .before .pre .0 in (omega (arith, p .1), p .2, omega (arith, p .0))
 
 put-if-requires : tie.Need-put-if-requires Inv-loop μ-loop
-put-if-requires c κs = room-as _ _ _ _ (ap₂ factIf (c .before .before .linked .ensures _ _) (c .before .fact .ensures)) (turn-room (linkFact (groundIn (c .before .before .before .before .before .before .args .g) [] (c .before .before .before .before .before .before .args .edges .now)) (c .before .before .before .before .before .before .args .attribute) (c .before .before .before .before .before .before .args .d)) _ _ _ _ _ _ (c .before .before .before .loop-test .taken) (c .before .before .before .before .before .before .pre .1) (c .before .before .before .before .loop .inv .1))
+put-if-requires c κs =
+    room-as _ _ _ _ (ap₂ factIf (c .before .before .linked .ensures _ _) (c .before .fact .ensures))
+    (turn-room _ _ _ _ _ _ _ (c .before .before .before .loop-test .taken) (c .before .before .before .before .before .before .before .pre .1) (c .before .before .before .before .loop .inv .1))
 
 add-e : tie.Need-add-e Inv-loop μ-loop
 add-e c = search needs
 
 loop-less : tie.Need-loop-less Inv-loop μ-loop
-loop-less c = omega arith
+loop-less c = search needs
 
 loop-again : tie.Need-loop-again Inv-loop μ-loop
-loop-again c = (omega arith, turn-more (linkFact (groundIn (c .before .before .before .before .before .before .before .args .g) [] (c .before .before .before .before .before .before .before .args .edges .now)) (c .before .before .before .before .before .before .before .args .attribute) (c .before .before .before .before .before .before .before .args .d)) _ _ _ _ _ _ _ (c .before .before .before .before .before .loop .inv .1) (wrote-as _ _ _ _ _ _ (ap₂ factIf (c .before .before .before .linked .ensures _ _) (c .before .before .fact .ensures)) (c .put-if .ensures)))
+loop-again c = (
+  omega arith,
+  turn-more _ _ _ _ _ _ _ _ (c .before .before .before .before .before .before .before .loop .inv .1)
+      (wrote-as _ _ _ _ _ _ (ap₂ factIf (c .before .before .before .before .before .linked .ensures _ _) (c .before .before .before .before .fact .ensures)) (c .before .before .put-if .ensures)),
+)
+
+same-length : tie.Need-same-length Inv-loop μ-loop
+same-length c = c .before .loop .inv .1 .size
 
 returns : tie.Need-returns Inv-loop μ-loop
-returns c = turn-all (linkFact (groundIn (c .before .before .before .args .g) [] (c .before .before .before .args .edges .now)) (c .before .before .before .args .attribute) (c .before .before .before .args .d)) _ _ _ _ _ _ (le-antisymm (c .before .loop .inv .0) (c .loop-test .left)) (c .before .loop .inv .1)
+returns c = turn-all _ _ _ _ _ _ _ (le-antisymm (c .before .loop .inv .0) (c .loop-test .left)) (c .before .loop .inv .1)
 
 pub link-facts-spec : {M : Type 1} → statement M
 link-facts-spec =
@@ -61,4 +70,5 @@ link-facts-spec =
     add-e
     loop-less
     loop-again
+    same-length
     returns)

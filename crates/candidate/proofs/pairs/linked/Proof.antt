@@ -32,10 +32,10 @@ loop-less : tie.Need-loop-less Inv-loop μ-loop
 loop-less c = omega arith
 
 loop-again : tie.Need-loop-again Inv-loop μ-loop
-loop-again c = (omega arith, rw (c .wide .ensures) (linked-more (c .before .before .before .before .before .args .edges .now) (c .before .before .before .before .before .args .attribute) (c .before .before .before .before .before .args .d) (c .before .before .before .before .before .args .e) _ _ (c .before .before .loop-test .taken) (c .before .before .before .loop .inv .1)))
+loop-again c = (omega arith, rw (c .wide .ensures) (linked-more _ _ _ _ _ _ (c .before .before .loop-test .taken) (c .before .before .before .loop .inv .1)))
 
 returns : tie.Need-returns Inv-loop μ-loop
-returns c = linked-all (c .before .before .before .args .edges .now) (c .before .before .before .args .attribute) (c .before .before .before .args .d) (c .before .before .before .args .e) _ _ (c .loop-test .left) (c .before .loop .inv .1)
+returns c = linked-all _ _ _ _ _ _ (c .loop-test .left) (c .before .loop .inv .1)
 
 pub linked-spec : {M : Type 1} → statement M
 linked-spec =

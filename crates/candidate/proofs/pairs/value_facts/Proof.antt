@@ -1,32 +1,38 @@
 -- One pair, or none.
-use native.Mathlib.Omega.{arith}
+use borrow.Author.Needs.{needs}
 use Rattle.candidate.proofs.PairLaws.{value-off, value-room, value-on}
+use Rattle.candidate.specs.Writing.{Room}
 use Rattle.candidate.proofs.pairs.value_facts.Statement.{statement}
 use Rattle.candidate.proofs.pairs.value_facts.Tie as tie
 
 returns : tie.Need-returns
-returns c = value-off _ _ _ _ _ (c .if1 .taken) (c .before .pre .1)
+returns c = value-off _ _ _ _ _ (c .if1 .taken)
 
 add-fact : tie.Need-add-fact
-add-fact c = omega arith
+add-fact c = search needs
 
 sub-fact : tie.Need-sub-fact
-sub-fact c = omega (arith, c .if1 .left)
+sub-fact c = search needs
 
 fact-requires : tie.Need-fact-requires
-fact-requires c κs = (omega arith, c .before .pre .0 .2, omega (arith, c .if1 .left))
+fact-requires c κs = search needs
 
 mul-out : tie.Need-mul-out
-mul-out c = omega (arith, value-room _ _ _ _ _ (c .before .if1 .left) (c .before .before .pre .1))
+unfolding Room
+mul-out c = search needs
 
-element-write-out : tie.Need-element-write-out
-element-write-out c = omega (arith, value-room _ _ _ _ _ (c .before .if1 .left) (c .before .before .pre .1))
+slice-write-out : tie.Need-slice-write-out
+slice-write-out c = value-room _ _ _ _ _ (c .before .if1 .left) (c .before .before .before .pre .1)
 
 add-result : tie.Need-add-result
-add-result c = omega (arith, value-room _ _ _ _ _ (c .before .if1 .left) (c .before .before .pre .1))
+unfolding Room
+add-result c = search needs
+
+same-length : tie.Need-same-length
+same-length c = search needs
 
 returns-2 : tie.Need-returns-2
-returns-2 c = value-on _ _ _ _ _ _ (c .before .if1 .left) (c .fact .ensures) (c .before .before .pre .1)
+returns-2 c = value-on _ _ _ _ _ _ (c .before .if1 .left) (c .fact .ensures) (c .before .before .before .pre .1)
 
 pub value-facts-spec : {M : Type 1} → statement M
 value-facts-spec =
@@ -37,6 +43,7 @@ value-facts-spec =
     sub-fact
     fact-requires
     mul-out
-    element-write-out
+    slice-write-out
     add-result
+    same-length
     returns-2)

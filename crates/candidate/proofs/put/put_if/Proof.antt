@@ -1,24 +1,30 @@
 -- The two arms.
+use borrow.Author.Needs.{needs}
 use borrow.Author.Tests.{not-true, not-false}
-use native.Mathlib.Omega.{arith}
 use Rattle.candidate.proofs.WriteLaws.{if-room, if-on, if-off}
+use Rattle.candidate.specs.Writing.{Room}
 use Rattle.candidate.proofs.put.put_if.Statement.{statement}
 use Rattle.candidate.proofs.put.put_if.Tie as tie
 
 returns : tie.Need-returns
-returns c = if-off _ _ _ _ (c .before .pre) (not-true (c .before .args .test) (c .if1 .taken))
+returns c = if-off _ _ _ _ (not-true (c .before .args .test) (c .if1 .taken))
 
 mul-out : tie.Need-mul-out
-mul-out c = omega (arith, if-room _ _ _ _ (c .before .pre) (not-false (c .before .args .test) (c .if1 .left)))
+unfolding Room
+mul-out c = search needs
 
-element-write-out : tie.Need-element-write-out
-element-write-out c = omega (arith, if-room _ _ _ _ (c .before .pre) (not-false (c .before .args .test) (c .if1 .left)))
+slice-write-out : tie.Need-slice-write-out
+slice-write-out c = if-room _ _ _ _ (c .before .pre) (not-false (c .before .args .test) (c .if1 .left))
 
 add-result : tie.Need-add-result
-add-result c = omega (arith, if-room _ _ _ _ (c .before .pre) (not-false (c .before .args .test) (c .if1 .left)))
+unfolding Room
+add-result c = search needs
+
+same-length : tie.Need-same-length
+same-length c = search needs
 
 returns-2 : tie.Need-returns-2
 returns-2 c = if-on _ _ _ _ (c .before .pre) (not-false (c .before .args .test) (c .if1 .left))
 
 pub put-if-spec : {M : Type 1} → statement M
-put-if-spec = tie.close (tie.spec returns mul-out element-write-out add-result returns-2)
+put-if-spec = tie.close (tie.spec returns mul-out slice-write-out add-result same-length returns-2)
