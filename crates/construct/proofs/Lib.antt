@@ -1,4 +1,4 @@
 -- The model's parts, as the code finds them.
-mod NodeLaws
+pub mod NodeLaws
 mod ClosedLaws
-mod ListedLaws
+pub mod ArraysLaws

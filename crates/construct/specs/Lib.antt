@@ -1,3 +1,3 @@
 -- What the contracts cite beside the model.
-pub mod Listed
+pub mod Arrays
 pub mod Closed

@@ -1,9 +1,9 @@
 // The candidate of an accepted schema, query and view: the query's facts are read and closed under the axioms, the
-// representatives numbered, values made as the view asks for them, and the facts listed. Each part is the model's (crate chase).
+// representatives numbered, values made as the view asks for them, and the objects counted. Each part is the model's (crate chase).
 use asked::entry::asked;
 use asked::words::Kind;
 use asked::words::Words;
-use candidate::facts::facts;
+use candidate::number::Sizes;
 use candidate::number::count_objects;
 use forest::objects::OBJECTS;
 use forest::walk::walks;
@@ -15,33 +15,32 @@ use records::concept::Query;
 use records::layout::word;
 use records::schema::MAX_CONSTANTS;
 use records::schema::signature_of;
-use records::state::MAX_FACTS;
 ghost use mathlib.Core.Path.{_≡_};
-ghost use mathlib.Core.Bool.{false};
 ghost use Prim.Native.Nat.{_≤_};
 ghost use lib.ListN.{length};
-ghost use Rattle.records.specs.Layout.{maxFacts, maxTokens};
+ghost use Rattle.records.specs.Layout.{maxTokens, maxObjects};
 ghost use Rattle.chase.specs.Task.{taskOf, nodes as nodesOf};
-ghost use Rattle.chase.specs.Primary.{primary, clash};
+ghost use Rattle.chase.specs.Primary.{primary};
 ghost use Rattle.primary.specs.Formed.{Becomes};
 ghost use Rattle.primary.specs.Asked.{queryTask};
 ghost use Rattle.asked.specs.declared.words.Kind.the-variants.{Members, Equations, Edges};
 ghost use Rattle.asked.specs.Listed.{listed as wordsIn};
 ghost use Rattle.asked.specs.Answer.{Asked};
-ghost use Rattle.construct.specs.Listed.{Triple, Listed};
-ghost use Rattle.construct.specs.Closed.{Pair, Nodes, Closed, Laid};
+ghost use Rattle.construct.specs.Arrays.{Triple, Arrays, Built};
+ghost use Rattle.construct.specs.Closed.{Pair, Nodes, Closed};
 
 // The nodes of the largest query: its steps, the start and the constants.
-const MAX_NODES: usize = Query::STEPS + 1 + MAX_CONSTANTS;
+pub const MAX_NODES: usize = Query::STEPS + 1 + MAX_CONSTANTS;
 
-// Whether two constants are one object, so that there is no candidate; otherwise how many objects and facts it has.
+// Whether two constants are one object, so that there is no candidate; otherwise the query's edges between objects, and how many
+// objects there are.
 pub struct Made {
     pub clashes: bool,
-    pub objects: usize,
-    pub facts: usize,
+    pub edges: Words,
+    pub sizes: Sizes,
 }
 
-fn nodes(schema: &[u16], query: &[u16]) -> usize
+pub fn nodes(schema: &[u16], query: &[u16]) -> usize
     requires { ⌜ Pair (now schema) (now query) ⌝ }
     ensures { λ r. ⌜ r ≡ nodesOf (queryTask (now (schema .entry)) (now (query .entry))) ⌝ }
 {
@@ -87,36 +86,7 @@ fn closed(schema: &[u16], query: &[u16], reps: &mut [u32], sets: &mut [u32]) -> 
     edges
 }
 
-// The candidate's facts, from the ground of a query that has no clash. `query` and `sets` are what the promises name; the code
-// has no need of them.
-fn from_ground(
-    schema: &[u16],
-    query: &[u16],
-    view: &[u16],
-    reps: &[u32],
-    sets: &[u32],
-    edges: &[u16],
-    g: usize,
-    objects: &mut [u64; OBJECTS],
-    list: &mut [u32; MAX_FACTS],
-) -> Made
-    requires { ⌜ Triple (now schema) (now query) (now view) × (clash (taskOf (now schema) (now query) (now view)) ≡ false) ⌝ }
-    requires { ⌜ Laid (now schema) (now query) (now reps) (now sets) (now edges) (now objects) g × (length (now list) ≡ maxFacts) ⌝ }
-    ensures { λ r. ⌜ Listed (taskOf (now (schema .entry)) (now (query .entry)) (now (view .entry))) r (now (list .exit)) ⌝ }
-{
-    let s = signature_of(schema);
-    let first = reps.len() - s.constants;
-    let n = walks(schema, view, edges, g, objects);
-    let total = count_objects(schema, edges, objects, g, n);
-    let count = facts(schema, reps, first, edges, objects, g, n, total, list);
-    Made {
-        clashes: false,
-        objects: total,
-        facts: count,
-    }
-}
-
-// The same, from the closed primary part.
+// The candidate's objects, from the closed primary part. `query` is what the promises name; the code has no need of it.
 fn from_primary(
     schema: &[u16],
     query: &[u16],
@@ -124,26 +94,21 @@ fn from_primary(
     reps: &[u32],
     sets: &[u32],
     edges: &mut [u16],
-    list: &mut [u32; MAX_FACTS],
-) -> Made
-    requires { ⌜ Triple (now schema) (now query) (now view) × (clash (taskOf (now schema) (now query) (now view)) ≡ false) ⌝ }
-    requires { ⌜ Closed (now schema) (now query) (now reps) (now sets) (now edges) × (length (now list) ≡ maxFacts) ⌝ }
-    ensures { λ r. ⌜ Listed (taskOf (now (schema .entry)) (now (query .entry)) (now (view .entry))) r (now (list .exit)) ⌝ }
+    objects: &mut [u64; OBJECTS],
+) -> Sizes
+    requires { ⌜ Triple (now schema) (now query) (now view) × Closed (now schema) (now query) (now reps) (now sets) (now edges) × (length (now objects) ≡ maxObjects) ⌝ }
+    ensures arrays { λ r. ⌜ Arrays (taskOf (now (schema .entry)) (now (query .entry)) (now (view .entry))) (now (schema .entry)) (now (reps .entry)) (now (edges .exit)) (now (objects .exit)) r ⌝ }
+    ensures kept { λ _. ⌜ length (now (edges .exit)) ≡ length (now (edges .entry)) ⌝ }
 {
-    let mut objects = [0u64; OBJECTS];
-    let g = lay(reps, sets, &mut objects);
+    let ground = lay(reps, sets, objects);
     renumber(reps, edges);
-    from_ground(
-        schema,
-        query,
-        view,
-        reps,
-        sets,
-        edges,
-        g,
-        &mut objects,
-        list,
-    )
+    let made = walks(schema, view, edges, ground, objects);
+    let total = count_objects(schema, edges, objects, ground, made);
+    Sizes {
+        ground,
+        made,
+        total,
+    }
 }
 
 // The same, from two lists with an entry for each node.
@@ -153,10 +118,10 @@ fn from_nodes(
     view: &[u16],
     reps: &mut [u32],
     sets: &mut [u32],
-    list: &mut [u32; MAX_FACTS],
+    objects: &mut [u64; OBJECTS],
 ) -> Made
-    requires { ⌜ Triple (now schema) (now query) (now view) × Nodes (now schema) (now query) (now reps) (now sets) × (length (now list) ≡ maxFacts) ⌝ }
-    ensures { λ r. ⌜ Listed (taskOf (now (schema .entry)) (now (query .entry)) (now (view .entry))) r (now (list .exit)) ⌝ }
+    requires { ⌜ Triple (now schema) (now query) (now view) × Nodes (now schema) (now query) (now reps) (now sets) × (length (now objects) ≡ maxObjects) ⌝ }
+    ensures { λ r. ⌜ Built (now (schema .entry)) (now (query .entry)) (now (view .entry)) (now (reps .exit)) (now (objects .exit)) r ⌝ }
 {
     let edges = closed(schema, query, reps, sets);
     let s = signature_of(schema);
@@ -164,22 +129,44 @@ fn from_nodes(
     if clashes(reps, first, s.constants) {
         return Made {
             clashes: true,
-            objects: 0,
-            facts: 0,
+            edges,
+            sizes: Sizes {
+                ground: 0,
+                made: 0,
+                total: 0,
+            },
         };
     }
     let mut words = edges.words;
     let count = edges.count;
-    from_primary(schema, query, view, reps, sets, &mut words[..count], list)
+    let sizes = from_primary(
+        schema,
+        query,
+        view,
+        reps,
+        sets,
+        &mut words[..count],
+        objects,
+    );
+    Made {
+        clashes: false,
+        edges: Words { count, words },
+        sizes,
+    }
 }
 
-// The candidate's facts in ascending order, at the start of the lent list.
-pub fn candidate(schema: &[u16], query: &[u16], view: &[u16], list: &mut [u32; MAX_FACTS]) -> Made
-    requires { ⌜ Triple (now schema) (now query) (now view) × (length (now list) ≡ maxFacts) ⌝ }
-    ensures { λ r. ⌜ Listed (taskOf (now (schema .entry)) (now (query .entry)) (now (view .entry))) r (now (list .exit)) ⌝ }
+// The candidate in lent arrays: a representative for each node, and the objects.
+pub fn candidate(
+    schema: &[u16],
+    query: &[u16],
+    view: &[u16],
+    reps: &mut [u32],
+    objects: &mut [u64; OBJECTS],
+) -> Made
+    requires { ⌜ Triple (now schema) (now query) (now view) × (length (now reps) ≡ nodesOf (queryTask (now schema) (now query))) × (length (now objects) ≡ maxObjects) ⌝ }
+    ensures { λ r. ⌜ Built (now (schema .entry)) (now (query .entry)) (now (view .entry)) (now (reps .exit)) (now (objects .exit)) r ⌝ }
 {
-    let n = nodes(schema, query);
-    let mut reps = [0u32; MAX_NODES];
+    let n = reps.len();
     let mut sets = [0u32; MAX_NODES];
-    from_nodes(schema, query, view, &mut reps[..n], &mut sets[..n], list)
+    from_nodes(schema, query, view, reps, &mut sets[..n], objects)
 }

@@ -1,15 +1,15 @@
--- A clash is found where the constants' nodes stand; otherwise the facts are listed (ListedLaws).
+-- A clash is found where the constants' nodes stand; otherwise the arrays are the candidate's (ArraysLaws).
 use borrow.Author.Needs.{needs}
-use mathlib.Core.Path.{ap, sym, _∙_}
+use mathlib.Core.Path.{ap, refl, sym, _∙_}
 use native.Mathlib.Omega.{arith}
 use lib.Seq.{length-take-le}
 use Rattle.records.specs.declared.schema.Signature.{Signature}
-use Rattle.construct.proofs.ListedLaws.{clashes-are, constants-inside, listed-clash, pair-of}
+use Rattle.construct.proofs.ArraysLaws.{built-clash, built-open, clashes-are, constants-inside, pair-of}
 use Rattle.construct.proofs.from_nodes.Statement.{statement}
 use Rattle.construct.proofs.from_nodes.Tie as tie
 
 closed-requires : tie.Need-closed-requires
-closed-requires c κs = (pair-of (c .before .before .before .before .before .before .before .pre .0), c .before .before .before .before .before .before .before .pre .1)
+closed-requires c κs = let (ok, nodes, size) = c .before .before .before .before .before .before .before .pre in (pair-of ok, nodes)
 
 signature-of-requires : tie.Need-signature-of-requires
 signature-of-requires c κs = tt
@@ -32,28 +32,19 @@ same-length-2 c = search needs
 
 returns : tie.Need-returns
 returns c =
-    let pre = c .before .before .before .before .before .before .before .before .before .before .before .before .before .before .before .before .before .pre in
-    listed-clash _ _
-    (sym (clashes-are _ _ _ (pre .0) _ _ (c .before .before .before .before .before .before .before .before .before .closed .ensures .0 .prime) _ _ (rw (c .before .before .before .before .signature-of .ensures)) (rw (c .before .before .before .before .signature-of .ensures)) _ (c .before .clashes .ensures))
-    ∙ c .if1 .taken) (pre .2)
+    let room = c .before .before .before .before .before .before .before .before .before .closed .ensures .1 in
+    built-clash _ _ _ _ _ _
+    (sym (clashes-are _ _ _ (c .before .before .before .before .before .before .before .before .before .before .before .before .before .before .before .before .before .pre .0) _ _ (c .before .before .before .before .before .before .before .before .before .closed .ensures .0 .prime) _ _ (rw (c .before .before .before .before .signature-of .ensures)) (rw (c .before .before .before .before .signature-of .ensures)) _ (c .before .clashes .ensures))
+    ∙ c .if1 .taken) refl (room .0) (room .1)
 
 array-borrow-prefix-words : tie.Need-array-borrow-prefix-words
 array-borrow-prefix-words c = let room = c .before .before .before .before .before .before .before .before .before .before .before .before .closed .ensures .1 in omega (arith, room .0, room .1)
 
 slice-aggregate-from-primary : tie.Need-slice-aggregate-from-primary
-slice-aggregate-from-primary c =
-    let room = c .before .before .before .before .before .before .before .before .before .before .before .before .before .closed .ensures .1 in sym (length-take-le _ _ (omega (arith, room .0, room .1)))
+slice-aggregate-from-primary c = let room = c .before .before .before .before .before .before .before .before .before .before .before .before .before .closed .ensures .1 in sym (length-take-le _ _ (omega (arith, room .0, room .1)))
 
 from-primary-requires : tie.Need-from-primary-requires
-from-primary-requires c κs =
-    let pre = c .before .before .before .before .before .before .before .before .before .before .before .before .before .before .before .before .before .before .before .before .before .before .pre in (
-      (
-        pre .0,
-        sym (clashes-are _ _ _ (pre .0) _ _ (c .before .before .before .before .before .before .before .before .before .before .before .before .before .before .closed .ensures .0 .prime) _ _ (rw (c .before .before .before .before .before .before .before .before .before .signature-of .ensures)) (rw (c .before .before .before .before .before .before .before .before .before .signature-of .ensures)) _ (c .before .before .before .before .before .before .clashes .ensures))
-            ∙ c .before .before .before .before .before .if1 .left,
-      ),
-      (c .before .before .before .before .before .before .before .before .before .before .before .before .before .before .closed .ensures .0, pre .2),
-    )
+from-primary-requires c κs = let (ok, nodes, size) = c .before .before .before .before .before .before .before .before .before .before .before .before .before .before .before .before .before .before .before .before .before .before .pre in (ok, c .before .before .before .before .before .before .before .before .before .before .before .before .before .before .closed .ensures .0, size)
 
 same-length-3 : tie.Need-same-length-3
 same-length-3 c = search needs
@@ -62,7 +53,12 @@ same-length-4 : tie.Need-same-length-4
 same-length-4 c = search needs
 
 returns-2 : tie.Need-returns-2
-returns-2 c = c .before .from-primary .ensures
+returns-2 c =
+    let room = c .before .before .before .before .before .before .before .before .before .before .before .before .before .before .before .before .closed .ensures .1 in
+    built-open _ _ _ _ _ _ _ _ _
+    (sym (clashes-are _ _ _ (c .before .before .before .before .before .before .before .before .before .before .before .before .before .before .before .before .before .before .before .before .before .before .before .before .pre .0) _ _ (c .before .before .before .before .before .before .before .before .before .before .before .before .before .before .before .before .closed .ensures .0 .prime) _ _ (rw (c .before .before .before .before .before .before .before .before .before .before .before .signature-of .ensures)) (rw (c .before .before .before .before .before .before .before .before .before .before .before .signature-of .ensures)) _ (c .before .before .before .before .before .before .before .before .clashes .ensures))
+    ∙ c .before .before .before .before .before .before .before .if1 .left) (c .before .from-primary .ensures .0)
+    (sym (c .before .from-primary .ensures .1 ∙ length-take-le _ _ (omega (arith, room .0, room .1)))) (room .0) (room .1)
 
 pub from-nodes-spec : {M : Type 1} → statement M
 from-nodes-spec =

@@ -1,44 +1,51 @@
--- The ground is laid, and the query's edges are renumbered.
+-- The ground is laid, the query's edges are renumbered, the view is walked and the objects are counted (ArraysLaws).
 use borrow.Author.Needs.{needs}
-use mathlib.Core.List.{map}
-use mathlib.Core.Path.{_∙_, ap}
-use Rattle.ground.specs.Numbers.{renumberIn}
-use Rattle.construct.proofs.ListedLaws.{reps-few}
+use Rattle.construct.proofs.ArraysLaws.{reps-few, laid-by, ground-few, ground-kept, arrays-by}
 use Rattle.construct.proofs.from_primary.Statement.{statement}
 use Rattle.construct.proofs.from_primary.Tie as tie
 
 lay-requires : tie.Need-lay-requires
 lay-requires c κs =
-    let pre = c .before .before .before .before .before .before .before .pre in
-    (pre .1 .0 .prime .formed, reps-few _ _ _ (pre .0 .0) _ _ (pre .1 .0 .prime), search needs)
+    let (ok, closed, size) = c .before .before .before .before .before .before .before .pre in
+    (closed .prime .formed, reps-few _ _ _ ok _ _ (closed .prime), size)
 
 renumber-requires : tie.Need-renumber-requires
 renumber-requires c κs =
-    let pre = c .before .before .before .before .before .before .before .before .before .pre in (
-      pre .1 .0 .prime .formed .inside,
-      reps-few _ _ _ (pre .0 .0) _ _ (pre .1 .0 .prime),
-      rw (pre .1 .0 .prime .size) (pre .1 .0 .inside),
+    let (ok, closed, size) = c .before .before .before .before .before .before .before .before .before .pre in
+    (closed .prime .formed .inside, reps-few _ _ _ ok _ _ (closed .prime), rw (closed .prime .size) (closed .inside))
+
+walks-requires : tie.Need-walks-requires
+walks-requires c κs =
+    let (ok, closed, size) = c .before .before .before .before .before .before .before .before .before .before .before .before .before .before .pre in
+    let ground = c .before .before .before .before .before .before .lay .ensures in
+    let edges = c .before .before .before .before .renumber .ensures in
+    let after = c .before .before .before .before .renumber .last .1 .0 in (
+      ok .schema-accepted,
+      ok .view-accepted,
+      ground-kept _ _ _ ok _ _ after _ _ (laid-by closed ground edges),
+      ground-few _ _ _ ok _ _ after _ _ (laid-by closed ground edges),
     )
 
-from-ground-requires : tie.Need-from-ground-requires
-from-ground-requires c κs =
-    let pre = c .before .before .before .before .before .before .before .before .before .before .before .before .before .before .before .pre in (
-      pre .0,
-      (
-        record {
-          prime = pre .1 .0 .prime;
-          ground = c .before .before .before .before .before .before .before .lay .ensures;
-          edges = c .before .before .before .before .before .renumber .ensures ∙ ap (map (renumberIn (c .before .before .before .before .before .before .before .before .before .before .before .before .before .before .before .args .reps .now))) (pre .1 .0 .edges);
-        },
-        pre .1 .1,
-      ),
-    )
+count-objects-requires : tie.Need-count-objects-requires
+count-objects-requires c κs = (c .before .before .before .before .before .before .before .before .before .before .before .before .before .before .before .before .before .pre .0 .schema-accepted, c .before .before .walks .ensures .kept)
 
 same-length : tie.Need-same-length
 same-length c = search needs
 
 returns : tie.Need-returns
-returns c = c .from-ground .ensures
+returns c =
+    let (ok, closed, size) = c .before .before .before .before .before .before .before .before .before .before .before .before .before .before .before .before .before .before .pre in
+    let ground = c .before .before .before .before .before .before .before .before .before .before .lay .ensures in
+    let edges = c .before .before .before .before .before .before .before .before .renumber .ensures in
+    (arrays-by _ _ _ ok _ _ _ _ _ (laid-by closed ground edges) _ _ (c .before .before .before .walks .ensures) _ (c .count-objects .ensures), search needs)
 
 pub from-primary-spec : {M : Type 1} → statement M
-from-primary-spec = tie.close (tie.spec lay-requires renumber-requires from-ground-requires same-length returns)
+from-primary-spec =
+    tie.close
+    (tie.spec
+    lay-requires
+    renumber-requires
+    walks-requires
+    count-objects-requires
+    same-length
+    returns)

@@ -1,23 +1,23 @@
--- From the closed primary part of a query to the candidate's facts: the ground is laid, the view is walked, the facts are
--- written, and each is the model's.
+-- From the closed primary part of a query to the candidate: the ground is laid, the view is walked, the objects are counted,
+-- and each is the model's.
 use Prim.Native.Nat.{ℕ, suc, _-_, _≤_}
-use mathlib.Core.Bool.{Bool, true, false, So, false≢true}
-use mathlib.Core.List.{List}
+use mathlib.Core.Bool.{Bool, false, So, false≢true}
+use mathlib.Core.List.{List, _++_, map}
 use mathlib.Core.Path.{_≡_, refl, sym, ap, subst, _∙_}
 use native.Mathlib.Omega.{arith}
-use lib.ListN.{length, length-map}
-use Rattle.records.specs.Layout.{maxFacts, querySteps}
+use lib.ListN.{length, drop, length-append, length-drop, length-map}
+use lib.Seq.{take-at}
+use Rattle.records.specs.Layout.{maxTokens, querySteps}
 use Rattle.records.specs.SchemaRecord.{signatureOf, schemaOf}
 use Rattle.records.specs.ConceptRecord.{conceptOf}
 use Rattle.records.proofs.General.FiniteLaws.{count-le}
 use Rattle.records.specs.Helpers.Steps.{conceptSteps}
-use Rattle.chase.specs.Task.{Task, nodes, asked, taskOf}
+use Rattle.chase.specs.Task.{startNode, nodes, asked, taskOf}
 use Rattle.chase.specs.Primary.{primary, clash}
 use Rattle.chase.specs.Ground.{live, ground}
 use Rattle.chase.specs.Candidate.{objects, forest}
 use Rattle.chase.proofs.AcceptanceLaws.{Within, accepted-within}
 use Rattle.chase.proofs.PairLaws.{asked-edges}
-use Rattle.chase.proofs.WrittenLaws.{facts-few}
 use Rattle.primary.specs.Formed.{prime, Becomes}
 use Rattle.chase.specs.Bounds.{maxNodes}
 use Rattle.primary.specs.Words.{edgeOf}
@@ -25,19 +25,21 @@ use Rattle.primary.specs.Clash.{clashesIn}
 use Rattle.primary.specs.Asked.{queryTask}
 use Rattle.primary.proofs.SettleLaws.{primary-view, nodes-few}
 use Rattle.primary.proofs.BeginLaws.{clash-is}
-use Rattle.ground.specs.Numbers.{renumberIn}
+use Rattle.ground.specs.Numbers.{objectIn, renumberIn}
 use Rattle.ground.specs.Objects.{groundIn, forestIn}
 use Rattle.ground.specs.Agrees.{Agrees}
-use Rattle.ground.proofs.GroundLaws.{ground-agrees, grounds-laid, sets-fit}
+use Rattle.ground.specs.Laying.{Grounds}
+use Rattle.ground.proofs.GroundLaws.{ground-agrees, start-object, grounds-laid, sets-fit}
 use Rattle.forest.specs.Kept.{Kept}
 use Rattle.forest.specs.Walking.{Walks}
 use Rattle.forest.proofs.SameLaws.{same-after, walks-same}
 use Rattle.candidate.specs.Facts.{factsIn}
 use Rattle.candidate.specs.Ready.{Ready}
-use Rattle.candidate.specs.Writing.{Wrote}
-use Rattle.candidate.proofs.AgreeLaws.{objects-are, objects-few, candidate-written}
-use Rattle.construct.specs.Listed.{Triple, Listed}
-use Rattle.construct.specs.Closed.{Pair, Laid}
+use Rattle.candidate.specs.declared.number.Sizes.{Sizes}
+use Rattle.candidate.proofs.AgreeLaws.{objects-are, objects-few, facts-are}
+use Rattle.construct.specs.declared.Made.{Made}
+use Rattle.construct.specs.Arrays.{Triple, constantsFrom, Arrays, Built}
+use Rattle.construct.specs.Closed.{Pair, Closed, Laid}
 
 pub pair-of : {s q v : List ℕ} → Triple s q v → Pair s q
 pair-of ok = record { schema-accepted = ok .schema-accepted; query-accepted = ok .query-accepted }
@@ -71,7 +73,11 @@ module _ (s q v : List ℕ) (ok : Triple s q v) (r l : List ℕ)
   unfolding taskOf schemaOf
   clashes-are first k e f b h = h ∙ rw (e ∙ first-is, f) (clash-is (taskOf s q v) r l prime-is)
 
--- the ground is laid
+-- the ground is laid, and the edges are renumbered
+pub laid-by : {s q r l es fs words : List ℕ} {g : ℕ} → Closed s q r l es → Grounds (prime r l) (length r) g words
+    → map edgeOf fs ≡ map (renumberIn r) (map edgeOf es) → Laid s q r l fs words g
+laid-by {r = r} z ground e = record { prime = z .prime; ground = ground; edges = e ∙ ap (map (renumberIn r)) (z .edges) }
+
 module _ (s q v : List ℕ) (ok : Triple s q v) (r l es words : List ℕ) (g : ℕ) (laid : Laid s q r l es words g) where
   abbrev inside : Within (taskOf s q v)
   inside = within s q v ok r l (laid .prime)
@@ -119,10 +125,12 @@ module _ (s q v : List ℕ) (ok : Triple s q v) (r l es words : List ℕ) (g : �
     unfolding taskOf
     schema-is = refl
 
-    -- the objects are counted, and the facts can be written
-    module _ (total : ℕ) (counted : total ≡ objects (schemaOf s) (groundIn g after es) (forestIn g n after)) (first : ℕ)
-        (e : first ≡ length r - signatureOf s .constants) where
-      pub ready : Ready s r first es after g n total
+    -- the objects are counted
+    module _ (total : ℕ) (counted : total ≡ objects (schemaOf s) (groundIn g after es) (forestIn g n after)) where
+      abbrev sizes : Sizes
+      sizes = record { ground = g; made = n; total = total }
+
+      ready : Ready s r (constantsFrom s r) es after (record { ground = g; made = n; total = total })
       unfolding schemaOf
       ready =
           record {
@@ -135,37 +143,45 @@ module _ (s q v : List ℕ) (ok : Triple s q v) (r l es words : List ℕ) (g : �
               objects-few (taskOf s q v) s es after g n schema-is agrees-after made (inside .formed) (inside .query) (inside .view)
                   (inside .constants),
             );
-            steps = edges-few;
             inside = laid .prime .formed .inside;
             nodes = reps-few s q v ok r l (laid .prime);
-            constants = omega (arith, e, constants-inside s q v ok r l (laid .prime));
+            constants = omega (arith, constants-inside s q v ok r l (laid .prime));
           }
 
-      pub listed-by : (out list : List ℕ) (k : ℕ) → Wrote 0 (factsIn s r first es g n after) out k list → clash (taskOf s q v) ≡ false
-          → Listed (taskOf s q v) (record { clashes = false; objects = total; facts = k }) list
-      listed-by out list k w c =
-          let y = candidate-written (taskOf s q v) s es after g n schema-is agrees-after made r l out list k
-          (prime-is s q v ok r l (laid .prime))
-          (subst (λ (i : ℕ). Wrote 0 (factsIn s r i es g n after) out k list) (e ∙ first-is s q v ok r l (laid .prime)) w) in
+      pub arrays-by : Arrays (taskOf s q v) s r es after (record { ground = g; made = n; total = total })
+      arrays-by =
+          let from = first-is s q v ok r l (laid .prime) in
+          let start : constantsFrom s r - 1 ≡ startNode (taskOf s q v) = omega (arith, from) in
           record {
-            clash-is = sym c;
-            made = λ a.
-                record {
-                  apart = a;
-                  size = counted ∙ objects-are (taskOf s q v) s es after g n schema-is agrees-after made;
-                  listed = y .0;
-                };
-            fits = omega (arith, y .1, facts-few (taskOf s q v) inside);
-            room = w .size;
+            ready = ready;
+            few = edges-few;
+            begins = omega (arith, from);
+            start = ap (objectIn r) start ∙ start-object (taskOf s q v) r l (prime-is s q v ok r l (laid .prime));
+            size = counted ∙ objects-are (taskOf s q v) s es after g n schema-is agrees-after made;
+            facts-are =
+                ap (λ (i : ℕ). factsIn s r i es g n after) from
+                ∙ facts-are (taskOf s q v) s es after g n schema-is agrees-after made r l (prime-is s q v ok r l (laid .prime));
           }
 
--- where there is a clash there is nothing to list
-pub listed-clash : (t : Task) (list : List ℕ) → So (clash t) → length list ≡ maxFacts
-    → Listed t (record { clashes = true; objects = 0; facts = 0 }) list
-listed-clash t list c room =
+-- where there is a clash there is no candidate
+pub built-clash : (s q v r words : List ℕ) (m : Made) → So (clash (taskOf s q v)) → So (m .clashes) → m .edges .count ≤ maxTokens
+    → length (m .edges .words) ≡ maxTokens → Built s q v r words m
+built-clash s q v r words m c b count room =
     record {
-      clash-is = sym c;
-      made = λ a. absurd (false≢true (sym a ∙ c));
-      fits = omega arith;
+      clash-is = b ∙ sym c;
+      arrays = λ a. absurd (false≢true (sym a ∙ c));
+      count = count;
       room = room;
+    }
+
+-- the edges in an array whose first words they are
+pub built-open : (s q v r words : List ℕ) (z : Sizes) (es old : List ℕ) (k : ℕ) → clash (taskOf s q v) ≡ false
+    → Arrays (taskOf s q v) s r es words z → k ≡ length es → k ≤ maxTokens → length old ≡ maxTokens
+    → Built s q v r words (record { clashes = false; edges = record { count = k; words = es ++ drop k old }; sizes = z })
+built-open s q v r words z es old k apart a is count room =
+    record {
+      clash-is = sym apart;
+      arrays = λ _. subst (λ (l : List ℕ). Arrays (taskOf s q v) s r l words z) (sym (take-at es (drop k old) k (sym is))) a;
+      count = count;
+      room = omega (arith, length-append es (drop k old), length-drop k old, is, count, room);
     }
