@@ -11,7 +11,10 @@ use Rattle.judge.specs.declared.counterexample.CounterexampleAnswer.{Counterexa
 use Rattle.judge.specs.declared.counterexample.CounterexampleAnswer.the-variants as counterexample
 use Rattle.decide.specs.declared.DecideAnswer.{DecideAnswer}
 use Rattle.decide.specs.declared.DecideAnswer.the-variants as decide
+use Rattle.decide.specs.declared.holds.HoldsAnswer.{HoldsAnswer}
+use Rattle.decide.specs.declared.holds.HoldsAnswer.the-variants as holds
 use Rattle.decide.specs.Decision.{Decision}
+use Rattle.decide.specs.Holding.{Holding}
 
 abbrev pub selectReturns : SelectAnswer → ℕ
 selectReturns (select.Selected n) = 0
@@ -43,6 +46,24 @@ abbrev pub counterexampleWrites : CounterexampleAnswer → ℕ → ℕ
 counterexampleWrites counterexample.No before = 0
 counterexampleWrites (counterexample.Yes d) before = suc d
 counterexampleWrites (counterexample.Refused number) before = before
+
+abbrev pub holdsReturns : HoldsAnswer → ℕ
+holdsReturns holds.Held = 0
+holdsReturns holds.Open = 0
+holdsReturns (holds.Refused number) = number
+
+-- 1 for held, 0 for open
+abbrev pub holdsWrites : HoldsAnswer → ℕ → ℕ
+holdsWrites holds.Held before = 1
+holdsWrites holds.Open before = 0
+holdsWrites (holds.Refused number) before = before
+
+-- an answer that holds may give, and what C gets of it
+pub record HoldsTo (schema query view : List ℕ) (held : ℕ) (returned : ℕ) (held′ : ℕ) : Type 0 where
+  pub answer : HoldsAnswer
+  pub holding : Holding schema query view answer
+  pub returns : returned ≡ holdsReturns answer
+  pub writes : held′ ≡ holdsWrites answer held
 
 abbrev pub decideReturns : DecideAnswer → ℕ
 decideReturns decide.Held = 0

@@ -1,6 +1,7 @@
 // The entries for C (include/bikuvoa.h). Each returns 0, or the number of the first refusal that applies, and then no lent
 // word and no out value is altered. A slice crosses as a pointer and a length.
 use decide::DecideAnswer;
+use decide::holds::HoldsAnswer;
 use judge::counterexample::CounterexampleAnswer;
 use judge::legal::LegalAnswer;
 use judge::select::SelectAnswer;
@@ -8,7 +9,7 @@ ghost use mathlib.Core.Path.{_≡_};
 ghost use Rattle.judge.specs.Select.{selectOutcome};
 ghost use Rattle.judge.specs.LegalState.{legalAnswer};
 ghost use Rattle.judge.specs.Counterexample.{counterexampleAnswer};
-ghost use Rattle.bikuvoa_c.specs.Answers.{selectReturns, selectWrites, legalReturns, legalWrites, counterexampleReturns, counterexampleWrites, LegalFits, CounterexampleFits, decideReturns, decideObjects, decideObject, DecidedTo};
+ghost use Rattle.bikuvoa_c.specs.Answers.{selectReturns, selectWrites, legalReturns, legalWrites, counterexampleReturns, counterexampleWrites, LegalFits, CounterexampleFits, holdsReturns, holdsWrites, HoldsTo, decideReturns, decideObjects, decideObject, DecidedTo};
 
 fn select_returns(answer: SelectAnswer) -> u16
     ensures { λ r. ⌜ r ≡ selectReturns answer ⌝ }
@@ -111,6 +112,35 @@ pub extern "C" fn bikuvoa_counterexample(
     let answer = judge::counterexample::counterexample(schema, query, view, state);
     *found = counterexample_writes(answer, *found);
     counterexample_returns(answer)
+}
+
+fn holds_returns(answer: HoldsAnswer) -> u16
+    ensures { λ r. ⌜ r ≡ holdsReturns answer ⌝ }
+{
+    match answer {
+        HoldsAnswer::Held => 0,
+        HoldsAnswer::Open => 0,
+        HoldsAnswer::Refused(number) => number,
+    }
+}
+
+fn holds_writes(answer: HoldsAnswer, before: u64) -> u64
+    ensures { λ r. ⌜ r ≡ holdsWrites answer before ⌝ }
+{
+    match answer {
+        HoldsAnswer::Held => 1,
+        HoldsAnswer::Open => 0,
+        HoldsAnswer::Refused(_) => before,
+    }
+}
+
+#[no_mangle]
+pub extern "C" fn bikuvoa_holds(schema: &[u16], query: &[u16], view: &[u16], held: &mut u64) -> u16
+    ensures { λ r. ⌜ HoldsTo (now (schema .entry)) (now (query .entry)) (now (view .entry)) (now (held .entry)) r (now (held .exit)) ⌝ }
+{
+    let answer = decide::holds::holds(schema, query, view);
+    *held = holds_writes(answer, *held);
+    holds_returns(answer)
 }
 
 fn decide_returns(answer: DecideAnswer) -> u16

@@ -97,16 +97,13 @@ returns-4 c =
     (lent-turned maxStateWords (L k) (c .if1 .taken)) refl
 
 answer-requires : tie.Need-answer-requires
-unfolding maxStateWords lengthFor stateLayout
 answer-requires c κs =
-    let e = c .before .before in (
-      record {
-        schema-accepted = accepted-schema (known e) .1;
-        query-accepted = accepted-query (e .before .before .before);
-        view-accepted = accepted-view e;
-      },
-      c .before .if1 .left,
-    )
+    let e = c .before .before in
+    record {
+      schema-accepted = accepted-schema (known e) .1;
+      query-accepted = accepted-query (e .before .before .before);
+      view-accepted = accepted-view e;
+    }
 
 same-length : tie.Need-same-length
 same-length c = search needs
@@ -119,7 +116,7 @@ returns-5 c =
     decided-by (S k) (Q k) (W k) (L k) (
       schema-passed _ (accepted-schema k .1),
       (query-passed _ _ (accepted-query (e .before .before .before)), (view-passed _ _ (accepted-view e), (lent-passed maxStateWords (L k) (c .before .before .before .before .if1 .left), tt))),
-    ) _ _ (c .before .before .answer .ensures)
+    ) _ _ (c .before .before .answer .ensures .1 (c .before .before .before .before .if1 .left))
 
 pub decide-spec : {M : Type 1} → statement M
 decide-spec =
