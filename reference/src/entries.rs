@@ -5,6 +5,7 @@
 use crate::calculus::{self, Verdict};
 use crate::records::{self, QUERY_STEPS, VIEW_STEPS};
 use crate::semantics;
+use crate::syntax::{Concept, Schema};
 
 /// The least number of lent words for a decision.
 pub const DECIDE_WORDS: usize = 30_762;
@@ -61,9 +62,7 @@ pub fn counterexample(
     view: &[u16],
     state: &[u16],
 ) -> Result<Counterexample, u16> {
-    let schema = records::schema(schema)?;
-    let query = records::concept(query, &schema, QUERY_STEPS)?;
-    let view = records::concept(view, &schema, VIEW_STEPS)?;
+    let (schema, query, view) = triple(schema, query, view)?;
     let state = records::state(state, &schema)?;
     Ok(
         match semantics::counterexample(&schema, &query, &view, &state) {
@@ -81,13 +80,24 @@ pub fn decide(
     view: &[u16],
     lent_len: usize,
 ) -> Result<Verdict, u16> {
-    let schema = records::schema(schema)?;
-    let query = records::concept(query, &schema, QUERY_STEPS)?;
-    let view = records::concept(view, &schema, VIEW_STEPS)?;
+    let (schema, query, view) = triple(schema, query, view)?;
     if lent_len < DECIDE_WORDS {
         return Err(11);
     }
     Ok(calculus::decide(&schema, &query, &view))
+}
+
+/// The same verdict, without lent words.
+pub fn holds(schema: &[u16], query: &[u16], view: &[u16]) -> Result<Verdict, u16> {
+    let (schema, query, view) = triple(schema, query, view)?;
+    Ok(calculus::decide(&schema, &query, &view))
+}
+
+fn triple(schema: &[u16], query: &[u16], view: &[u16]) -> Result<(Schema, Concept, Concept), u16> {
+    let schema = records::schema(schema)?;
+    let query = records::concept(query, &schema, QUERY_STEPS)?;
+    let view = records::concept(view, &schema, VIEW_STEPS)?;
+    Ok((schema, query, view))
 }
 
 /// Places and objects of accepted records stay far below the word's limit.

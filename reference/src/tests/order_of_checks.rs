@@ -1,7 +1,8 @@
 //! The order in which the records of one call are checked.
 
 use super::write::{axioms_record, record};
-use crate::entries::{counterexample, decide, legal, select, Counterexample};
+use crate::calculus::Verdict;
+use crate::entries::{counterexample, decide, holds, legal, select, Counterexample};
 
 const CLASS: [u16; 4] = [1, 0, 1, 0];
 const EVERYTHING: [u16; 4] = [1, 0, 2, 0];
@@ -29,6 +30,8 @@ fn the_schema_comes_first() {
     assert_eq!(legal(&bad_axiom(), &[]), Err(2));
     assert_eq!(counterexample(&[1], &[], &[], &[]), Err(1));
     assert_eq!(decide(&bad_axiom(), &[], &[], 0), Err(2));
+    assert_eq!(holds(&[], &[], &[]), Err(1));
+    assert_eq!(holds(&bad_axiom(), &[], &[]), Err(2));
 }
 
 #[test]
@@ -41,6 +44,8 @@ fn the_concept_comes_before_the_state() {
 fn the_query_comes_before_the_view() {
     assert_eq!(decide(&schema(), &BAD_STEPS, &[], 0), Err(6));
     assert_eq!(decide(&schema(), &BAD_PILE, &BAD_TOKEN, 0), Err(5));
+    assert_eq!(holds(&schema(), &BAD_STEPS, &[]), Err(6));
+    assert_eq!(holds(&schema(), &BAD_PILE, &BAD_TOKEN), Err(5));
     assert_eq!(
         counterexample(&schema(), &BAD_STEPS, &BAD_PILE, &[]),
         Err(6)
@@ -53,6 +58,8 @@ fn the_view_comes_before_the_state_and_the_lent_words() {
     assert_eq!(counterexample(&schema(), &CLASS, &[], &BAD_STATE), Err(3));
     assert_eq!(decide(&schema(), &CLASS, &BAD_STEPS, 0), Err(6));
     assert_eq!(decide(&schema(), &CLASS, &CLASS, 0), Err(11));
+    assert_eq!(holds(&schema(), &CLASS, &BAD_STEPS), Err(6));
+    assert_eq!(holds(&schema(), &CLASS, &CLASS), Ok(Verdict::Held));
 }
 
 #[test]

@@ -3,7 +3,7 @@
 use super::build::{backward, both, class, forward, path, reached, schema};
 use super::write;
 use crate::calculus::Verdict::{self, Held, Open};
-use crate::entries::{decide, DECIDE_WORDS};
+use crate::entries::{decide, holds, DECIDE_WORDS};
 use crate::syntax::{Axiom, Concept, Role, Schema};
 
 const A: usize = 0;
@@ -12,9 +12,13 @@ const C: usize = 2;
 const P: usize = 0;
 const Q: usize = 1;
 
+/// The one verdict of both entries.
 fn verdict(schema: &Schema, query: &Concept, view: &Concept) -> Verdict {
+    let schema = write::schema(schema);
     let (query, view) = (write::concept(query), write::concept(view));
-    decide(&write::schema(schema), &query, &view, DECIDE_WORDS).expect("an accepted triple")
+    let verdict = decide(&schema, &query, &view, DECIDE_WORDS);
+    assert_eq!(holds(&schema, &query, &view), verdict);
+    verdict.expect("an accepted triple")
 }
 
 /// The verdict over three classes, two attributes and two constants.
