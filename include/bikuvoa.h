@@ -1,6 +1,6 @@
 /* Bikuvoa: whether a query may be read from a stored view, and the judging of states.
  *
- * Four functions over records of 16-bit words, in the machine's byte order, each record with its length in words. The format
+ * Five functions over records of 16-bit words, in the machine's byte order, each record with its length in words. The format
  * is in docs/RECORDS.md; the builders below write it. Any words may be passed: each function returns 0, or the number of the
  * first refusal that applies (enum bikuvoa_refusal), and then no lent word and no out value is altered.
  *
@@ -12,7 +12,7 @@
  *
  * Memory. No heap; for the stack see BIKUVOA_STACK_BYTES.
  *
- * Proved, for any words (crates/bikuvoa_c): what each of the four functions returns and writes, that it touches nothing else,
+ * Proved, for any words (crates/bikuvoa_c): what each of the five functions returns and writes, that it touches nothing else,
  * and that it ends. Not proved: the stack, which is measured, and the inline functions of this header, which are tested.
  *
  * C89 with <stdint.h>, any later C, and C++. */
@@ -37,14 +37,14 @@ extern "C" {
 
 /* While the major version is 0, a new minor version may change the format of records. */
 #define BIKUVOA_VERSION_MAJOR 0
-#define BIKUVOA_VERSION_MINOR 1
+#define BIKUVOA_VERSION_MINOR 2
 #define BIKUVOA_VERSION_PATCH 0
 #define BIKUVOA_VERSION (BIKUVOA_VERSION_MAJOR * 10000 + BIKUVOA_VERSION_MINOR * 100 + BIKUVOA_VERSION_PATCH)
 
-/* The stack to give a thread for a call. Measured: of the shapes that tests/entries.c tries, the deepest takes about 280 KB
- * (bikuvoa_decide, a query of 64 tokens with 16 steps nested in each other), and that test fails if one takes more than
- * this. */
-#define BIKUVOA_STACK_BYTES (2 * 1024 * 1024)
+/* The stack to give a thread for a call. Measured: of the shapes that tests/entries.c tries, the deepest (bikuvoa_decide, a
+ * query of 64 tokens with 16 steps nested in each other) takes about half of it. That test runs each of them on a stack of
+ * just this size. */
+#define BIKUVOA_STACK_BYTES (512 * 1024)
 
 /* Limits. */
 #define BIKUVOA_MAX_CLASSES 24
@@ -190,6 +190,11 @@ uint16_t bikuvoa_counterexample(const uint16_t *schema, size_t schema_words, con
 uint16_t bikuvoa_decide(const uint16_t *schema, size_t schema_words, const uint16_t *query, size_t query_words,
                         const uint16_t *view, size_t view_words, uint16_t *lent, size_t lent_words, uint64_t *objects,
                         uint64_t *object);
+
+/* The same question without a state and without lent words: *held becomes 1 if HELD and 0 if OPEN. A refused call leaves it as
+ * it was; so begin with 0, and it is 1 afterwards only if HELD. */
+uint16_t bikuvoa_holds(const uint16_t *schema, size_t schema_words, const uint16_t *query, size_t query_words,
+                       const uint16_t *view, size_t view_words, uint64_t *held);
 
 /* No verdict is 0, so that no truth test tells them apart and memory that was merely cleared is not HELD: compare with
  * == BIKUVOA_HELD.

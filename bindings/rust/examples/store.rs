@@ -38,8 +38,9 @@ impl Store {
         }
     }
 
+    /// A refused call promises nothing of the view.
     fn holds(&self, view: &View, query: &Query) -> bool {
-        self.schema.decide(query, view).is_held()
+        self.schema.holds(query, view) == Ok(true)
     }
 
     /// Keeps a view, before the first that is as wide or wider.

@@ -1,4 +1,4 @@
-//! The four calls, on records of any words and on built ones.
+//! The five calls, on records of any words and on built ones.
 
 use crate::concept::{Query, View};
 use crate::layout::{DECIDE_WORDS, MAX_OBJECTS, STATE};
@@ -92,6 +92,14 @@ pub fn decide(schema: &[u16], query: &[u16], view: &[u16]) -> Decision {
     }
 }
 
+/// Whether the query may be read from the view, as [`decide`] says, for who
+/// wants no state: nothing is taken from the heap.
+pub fn holds(schema: &[u16], query: &[u16], view: &[u16]) -> Result<bool, Refusal> {
+    let mut held = 0;
+    Refusal::check(raw::holds(schema, query, view, &mut held))?;
+    Ok(held == 1)
+}
+
 /// An out value that is an object; all objects are far below a word's limit.
 fn object(number: u64) -> Object {
     Object(number as u16)
@@ -127,5 +135,10 @@ impl Schema {
     /// what that allows.
     pub fn decide(&self, query: &Query, view: &View) -> Decision {
         decide(self.words(), query.words(), view.words())
+    }
+
+    /// Whether [`Schema::decide`] says [`Decision::Held`].
+    pub fn holds(&self, query: &Query, view: &View) -> Result<bool, Refusal> {
+        holds(self.words(), query.words(), view.words())
     }
 }

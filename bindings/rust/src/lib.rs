@@ -21,6 +21,8 @@
 //! let listed = Concept::both(Concept::class(person), Concept::reached(wearers));
 //! let view = View::new(&schema, &listed)?;
 //! assert_eq!(schema.decide(&query, &view), Decision::Held);
+//! // The same without a state, where one is not to be looked at.
+//! assert_eq!(schema.holds(&query, &view), Ok(true));
 //! # Ok(())
 //! # }
 //! ```
@@ -42,9 +44,9 @@
 //! The library takes records of 16-bit words (docs/RECORDS.md).
 //! [`SchemaBuilder`], [`Query`], [`View`] and [`StateBuilder`] make records that
 //! it accepts; what cannot be is a [`BuildError`]. The functions [`select`],
-//! [`legal`], [`counterexample`] and [`decide`] take any words, and a faulty
-//! record is a [`Refusal`]. [`raw`] has the calls as C has them, and [`layout`]
-//! the numbers of the format.
+//! [`legal`], [`counterexample`], [`decide`] and [`holds`] take any words, and a
+//! faulty record is a [`Refusal`]. [`raw`] has the calls as C has them, and
+//! [`layout`] the numbers of the format.
 //!
 //! # Linking
 //!
@@ -55,8 +57,8 @@
 //! # Threads and memory
 //!
 //! The library keeps nothing between calls and uses no heap, so any number of
-//! threads may call it at once. [`raw::STACK_BYTES`] are enough stack. The calls
-//! of this crate lend it words from the heap; with [`raw`] the words are yours.
+//! threads may call it at once. [`raw::STACK_BYTES`] are enough stack. [`decide`]
+//! lends it words from the heap; with [`raw`] the words are yours.
 
 #![deny(unsafe_code)]
 #![warn(missing_debug_implementations)]
@@ -72,7 +74,7 @@ mod refusal;
 mod schema;
 mod state;
 
-pub use calls::{counterexample, decide, legal, select, Decision, Legality};
+pub use calls::{counterexample, decide, holds, legal, select, Decision, Legality};
 pub use concept::{Concept, Path, Query, Token, View};
 pub use error::{BuildError, Item};
 pub use layout::Signature;

@@ -1,4 +1,4 @@
-//! The four functions as C has them (include/bikuvoa.h), on slices: any words
+//! The five functions as C has them (include/bikuvoa.h), on slices: any words
 //! may be passed. Each returns 0, or the number of the first refusal that
 //! applies; a refused call alters no lent word and no out value.
 //!
@@ -49,11 +49,21 @@ extern "C" {
         objects: *mut u64,
         object: *mut u64,
     ) -> u16;
+
+    fn bikuvoa_holds(
+        schema: *const u16,
+        schema_words: usize,
+        query: *const u16,
+        query_words: usize,
+        view: *const u16,
+        view_words: usize,
+        held: *mut u64,
+    ) -> u16;
 }
 
 /// Enough stack for any call. It is measured, not proved; a thread of the
-/// standard library has as much unless it was made with less.
-pub const STACK_BYTES: usize = 2 * 1024 * 1024;
+/// standard library has more unless it was made with less.
+pub const STACK_BYTES: usize = 512 * 1024;
 
 /// Lent word i becomes 1 if object i is in the query and 0 if not, for each
 /// object of the state; later words are unaltered. `selected` becomes how many
@@ -149,6 +159,23 @@ pub fn decide(
             lent.len(),
             objects,
             object,
+        )
+    }
+}
+
+/// `held` becomes 1 if the view holds the query and 0 if it does not, as
+/// `decide` says, without lent words.
+pub fn holds(schema: &[u16], query: &[u16], view: &[u16], held: &mut u64) -> u16 {
+    // SAFETY: as for `select`.
+    unsafe {
+        bikuvoa_holds(
+            schema.as_ptr(),
+            schema.len(),
+            query.as_ptr(),
+            query.len(),
+            view.as_ptr(),
+            view.len(),
+            held,
         )
     }
 }

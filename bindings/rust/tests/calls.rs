@@ -1,7 +1,7 @@
 //! The calls: the twelve small states, refusals on raw words, and threads.
 
 use bikuvoa::layout::{self, axiom, fact, token, Signature};
-use bikuvoa::{counterexample, decide, legal, raw, select};
+use bikuvoa::{counterexample, decide, holds, legal, raw, select};
 use bikuvoa::{Attribute, Class, Concept, Constant, Decision, Legality, Object, Path, Query};
 use bikuvoa::{Refusal, Schema, SchemaBuilder, State, StateBuilder, View};
 
@@ -90,6 +90,19 @@ fn the_small_judgements() {
     // A state that breaks an axiom disproves nothing.
     let found = stricter.counterexample(&everything, &person, &state);
     assert_eq!(found, Ok(None));
+}
+
+#[test]
+fn the_small_verdicts() {
+    let schema = straps().build();
+    let wearing = Concept::reached(Path::empty().forward(WEARS, Concept::everything()));
+    let (wearers, person) = (wearing, Concept::class(PERSON));
+    for (asked, listed, held) in [(&wearers, &person, true), (&person, &wearers, false)] {
+        let query = Query::new(&schema, asked).expect("a query");
+        let view = View::new(&schema, listed).expect("a view");
+        assert_eq!(schema.decide(&query, &view).is_held(), held);
+        assert_eq!(schema.holds(&query, &view), Ok(held));
+    }
 }
 
 /// A schema, a concept and a state that are accepted.
@@ -184,6 +197,7 @@ fn each_entry_refuses_each_faulty_record() {
         assert_eq!(number(legal(&faulty, &[])), expected);
         assert_eq!(number(counterexample(&faulty, &[], &[], &[])), expected);
         assert_eq!(decided(&faulty, &[], &[]), expected);
+        assert_eq!(number(holds(&faulty, &[], &[])), expected);
         assert_eq!(number(Schema::from_words(faulty)), expected);
     }
     let accepted = Schema::from_words(schema.clone()).expect("a schema");
@@ -195,6 +209,8 @@ fn each_entry_refuses_each_faulty_record() {
         assert_eq!(number(as_view), expected);
         assert_eq!(decided(&schema, &faulty, &[]), expected);
         assert_eq!(decided(&schema, &concept, &faulty), expected);
+        assert_eq!(number(holds(&schema, &faulty, &[])), expected);
+        assert_eq!(number(holds(&schema, &concept, &faulty)), expected);
         assert_eq!(
             number(Query::from_words(&accepted, faulty.clone())),
             expected
@@ -210,6 +226,7 @@ fn each_entry_refuses_each_faulty_record() {
     }
     assert_eq!(number(select(&schema, &concept, &state)), 0);
     assert_eq!(decided(&schema, &concept, &concept), 0);
+    assert_eq!(number(holds(&schema, &concept, &concept)), 0);
 }
 
 #[test]
@@ -229,9 +246,16 @@ fn a_refused_call_alters_nothing() {
     assert_eq!((returned, out), (3, 99));
     let returned = raw::decide(&schema, &concept, &[], &mut lent, &mut out, &mut second);
     assert_eq!((returned, lent, out, second), (3, [7; 4], 99, 98));
+    let returned = raw::holds(&schema, &concept, &[], &mut out);
+    assert_eq!((returned, out), (3, 99));
 
     let returned = raw::select(&schema, &concept, &state, &mut lent, &mut out);
     assert_eq!((returned, lent, out), (0, [1, 1, 1, 7], 3));
+    let returned = raw::holds(&schema, &concept, &concept, &mut out);
+    assert_eq!((returned, out), (0, 1));
+    let person = layout::concept(&[token::class(PERSON.0)]);
+    let returned = raw::holds(&schema, &concept, &person, &mut out);
+    assert_eq!((returned, out), (0, 0));
 }
 
 #[test]
@@ -277,6 +301,7 @@ fn a_record_of_another_schema_is_refused() {
     assert_eq!(number(other.counterexample(&all, &view, &state)), 4);
     let decision = other.decide(&query, &view);
     assert!(matches!(decision, Decision::Refused(_)), "{decision:?}");
+    assert_eq!(number(other.holds(&query, &view)), 4);
 }
 
 /// A thread with just the stack that is said to be enough decides a deep query
@@ -292,9 +317,11 @@ fn the_stack_is_enough() {
     let view = View::new(&schema, &Concept::class(STRAP)).expect("a view");
     std::thread::scope(|scope| {
         let small = std::thread::Builder::new().stack_size(raw::STACK_BYTES);
-        let decision = small.spawn_scoped(scope, || schema.decide(&query, &view));
-        let decision = decision.expect("a thread").join().expect("an answer");
+        let both = || (schema.decide(&query, &view), schema.holds(&query, &view));
+        let answers = small.spawn_scoped(scope, both).expect("a thread").join();
+        let (decision, held) = answers.expect("two answers");
         assert!(matches!(decision, Decision::Open { .. }), "{decision:?}");
+        assert_eq!(held, Ok(false));
     });
 }
 
@@ -314,6 +341,8 @@ fn threads_decide_alike() {
                 for _ in 0..100 {
                     assert_eq!(schema.decide(&query, &view), Decision::Held);
                     assert_eq!(schema.decide(&person, &turned), alone);
+                    assert_eq!(schema.holds(&query, &view), Ok(true));
+                    assert_eq!(schema.holds(&person, &turned), Ok(false));
                 }
             });
         }

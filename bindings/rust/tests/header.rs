@@ -1,7 +1,8 @@
-//! The numbers of the format and of the refusals are those of include/bikuvoa.h.
+//! The version, the stack, and the numbers of the format and of the refusals are
+//! those of include/bikuvoa.h.
 
 use bikuvoa::layout::{self, axiom, fact, token, CONCEPT, SCHEMA, STATE};
-use bikuvoa::Refusal;
+use bikuvoa::{raw, Refusal};
 use std::collections::BTreeMap;
 
 /// Each refusal by the header's name.
@@ -19,7 +20,8 @@ const REFUSALS: [(&str, Refusal); 11] = [
     ("FEW_LENT_WORDS", Refusal::FEW_LENT_WORDS),
 ];
 
-/// The macros and enumerators that are plain numbers, without their prefix.
+/// The macros and enumerators that are numbers or products of numbers, without
+/// their prefix.
 fn header() -> BTreeMap<String, usize> {
     let path = concat!(env!("CARGO_MANIFEST_DIR"), "/../../include/bikuvoa.h");
     let text = std::fs::read_to_string(path).expect("the header");
@@ -29,10 +31,14 @@ fn header() -> BTreeMap<String, usize> {
             .trim()
             .trim_start_matches("#define ")
             .replace(" = ", " ");
-        let mut words = line.trim_end_matches(',').split(' ');
-        let name = words.next().and_then(|name| name.strip_prefix("BIKUVOA_"));
-        let number = words.next().and_then(|number| number.parse().ok());
-        if let (Some(name), Some(number), None) = (name, number, words.next()) {
+        let Some((name, text)) = line.trim_end_matches(',').split_once(' ') else {
+            continue;
+        };
+        let factors = text
+            .trim_matches(['(', ')'])
+            .split(" * ")
+            .map(str::parse::<usize>);
+        if let (Some(name), Ok(number)) = (name.strip_prefix("BIKUVOA_"), factors.product()) {
             numbers.insert(name.to_string(), number);
         }
     }
@@ -45,6 +51,7 @@ fn the_numbers_are_the_headers() {
     let same = |name: &str, number: usize| {
         assert_eq!(header.get(name), Some(&number), "{name}");
     };
+    same("STACK_BYTES", raw::STACK_BYTES);
     same("MAX_CLASSES", layout::MAX_CLASSES.into());
     same("MAX_ATTRIBUTES", layout::MAX_ATTRIBUTES.into());
     same("MAX_CONSTANTS", layout::MAX_CONSTANTS.into());
@@ -83,6 +90,14 @@ fn the_numbers_are_the_headers() {
     for (name, refusal) in REFUSALS {
         same(name, refusal.number().into());
     }
+}
+
+#[test]
+fn the_version_is_the_headers() {
+    let header = header();
+    let parts = ["MAJOR", "MINOR", "PATCH"];
+    let version = parts.map(|part| header[&format!("VERSION_{part}")].to_string());
+    assert_eq!(version.join("."), env!("CARGO_PKG_VERSION"));
 }
 
 #[test]

@@ -2,9 +2,9 @@
 //! another way than by a refusal.
 
 use bikuvoa::layout::{MAX_ATTRIBUTES, MAX_CLASSES, MAX_CONSTANTS, QUERY_STEPS, VIEW_STEPS};
-use bikuvoa::{decide, legal, select, Decision, Legality, Query, Refusal, Schema, SchemaBuilder};
+use bikuvoa::{decide, holds, legal, select, Decision, Legality, Query, Refusal, Schema};
 use bikuvoa::{Attribute, Axiom, Class, Concept, Constant, Object, Path, Signature};
-use bikuvoa::{State, StateBuilder, View};
+use bikuvoa::{SchemaBuilder, State, StateBuilder, View};
 
 const DRAWS: usize = 2_000;
 
@@ -205,7 +205,9 @@ fn built_triples_are_decided() {
         let (Ok(query), Ok(view)) = (query, view) else {
             continue;
         };
-        match schema.decide(&query, &view) {
+        let decision = schema.decide(&query, &view);
+        assert_eq!(schema.holds(&query, &view), Ok(decision.is_held()));
+        match decision {
             Decision::Held => held += 1,
             Decision::Open { state, object } => {
                 open += 1;
@@ -239,9 +241,13 @@ fn any_words_are_answered() {
         let in_range = |refusal: Refusal| (1..=Refusal::LAST.number()).contains(&refusal.number());
         assert!(select(&schema, &one, &other).err().is_none_or(in_range));
         assert!(legal(&schema, &one).err().is_none_or(in_range));
+        let answer = holds(&schema, &one, &other);
         if let Decision::Refused(refusal) = decide(&schema, &one, &other) {
             refused += 1;
             assert!(in_range(refusal));
+            assert_eq!(answer, Err(refusal));
+        } else {
+            assert!(answer.is_ok(), "{answer:?}");
         }
         if let Ok(schema) = Schema::from_words(schema) {
             if let Ok(state) = State::from_words(&schema, one) {
