@@ -52,13 +52,11 @@ static void change(const char *what, bikuvoa_state changed)
 }
 
 /* The verdict depends on the schema alone and not on the data: a larger store finds it once for each query. */
-static enum bikuvoa_verdict decide(bikuvoa_concept query, bikuvoa_concept view)
+static int holds(bikuvoa_concept query, bikuvoa_concept view)
 {
-    static uint16_t lent[BIKUVOA_DECIDE_WORDS]; /* static: for one thread only */
-    uint64_t objects, object;
-    uint16_t returned = bikuvoa_decide(schema.words, schema.length, query.words, query.length, view.words, view.length, lent,
-                                       BIKUVOA_DECIDE_WORDS, &objects, &object);
-    return bikuvoa_verdict_of(returned, &objects);
+    uint64_t held = 0; /* and so it stays if the call is refused */
+    bikuvoa_holds(schema.words, schema.length, query.words, query.length, view.words, view.length, &held);
+    return held == 1;
 }
 
 static void answer(const Query *query)
@@ -66,8 +64,8 @@ static void answer(const Query *query)
     const View *from = NULL;
     int exact, looks = 0;
     for (int i = 0; i < VIEWS && !from; i++)
-        if (decide(query->is, views[i].is) == BIKUVOA_HELD) from = &views[i];
-    exact = from && decide(from->is, query->is) == BIKUVOA_HELD;
+        if (holds(query->is, views[i].is)) from = &views[i];
+    exact = from && holds(from->is, query->is);
     printf("%s:", query->name);
     for (size_t object = 0; object < OBJECTS; object++) {
         if (from && !from->list[object]) continue;

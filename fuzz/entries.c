@@ -1,4 +1,4 @@
-/* A libFuzzer target over the four entries. An input is read as records of arbitrary words, or as instructions for records
+/* A libFuzzer target over the five entries. An input is read as records of arbitrary words, or as instructions for records
  * that are mostly accepted, which may then be damaged. Every record and all lent words end at a page that cannot be touched.
  * What the entries promise of each other is checked: see check_*.
  *
@@ -256,6 +256,18 @@ static uint16_t check_counterexample(const Words *r, Words state, uint64_t *foun
     return 0;
 }
 
+/* What decide has said, but for lent words, of which holds needs none. */
+static void check_holds(const Words *r, uint16_t decided, uint64_t objects)
+{
+    uint64_t held = UNTOUCHED_OUT;
+    uint16_t returned = bikuvoa_holds(r[SCHEMA].at, r[SCHEMA].words, r[QUERY].at, r[QUERY].words, r[VIEW].at, r[VIEW].words,
+                                      &held);
+    if (decided == BIKUVOA_FEW_LENT_WORDS)
+        CHECK(returned == 0 && held <= 1);
+    else
+        CHECK(returned == decided && held == (returned ? UNTOUCHED_OUT : objects == 0));
+}
+
 /* Held: nothing is written, and the input's own state is no counterexample. Open: the written state is one, by the object. */
 static uint16_t check_decide(const Words *r, size_t room)
 {
@@ -266,6 +278,7 @@ static uint16_t check_decide(const Words *r, size_t room)
                                        l.at, l.words, &objects, &object);
     enum bikuvoa_verdict verdict = bikuvoa_verdict_of(returned, &objects);
     verdicts[verdict]++;
+    check_holds(r, returned, objects);
     if (verdict == BIKUVOA_REFUSED) {
         CHECK(objects == UNTOUCHED_OUT && object == UNTOUCHED_OUT && untouched(l, 0));
     } else if (verdict == BIKUVOA_HELD) {

@@ -1,12 +1,13 @@
 /* The entries, called from C through include/bikuvoa.h: document 01's twelve small states, a triple of each verdict, every
  * refusal that each entry has, alone and with later faults beside it, records checked one at a time, null pointers, a state
- * at the limits, and the stack that the deepest concepts take. Not proved; it prints how many checks passed. */
-#define _POSIX_C_SOURCE 200809L
+ * at the limits, and the deepest concepts on the documented stack. Not proved; it prints how many checks passed. */
+#define _DEFAULT_SOURCE
 #include "bikuvoa.h"
 #include <pthread.h>
 #include <stdio.h>
 #include <stdlib.h>
 #include <string.h>
+#include <sys/mman.h>
 
 #define UNTOUCHED 0xBEEF
 
@@ -144,8 +145,8 @@ static void make_bad_records(void)
 /* A call of any entry, by the record at each place, or the number of lent words. */
 
 enum { SCHEMA, QUERY, VIEW, STATE, LENT, PLACES };
-enum { SELECT, LEGAL, COUNTEREXAMPLE, DECIDE, ENTRIES };
-static const int HAS[ENTRIES][PLACES] = {{1, 1, 0, 1, 1}, {1, 0, 0, 1, 0}, {1, 1, 1, 1, 0}, {1, 1, 1, 0, 1}};
+enum { SELECT, LEGAL, COUNTEREXAMPLE, DECIDE, HOLDS, ENTRIES };
+static const int HAS[ENTRIES][PLACES] = {{1, 1, 0, 1, 1}, {1, 0, 0, 1, 0}, {1, 1, 1, 1, 0}, {1, 1, 1, 0, 1}, {1, 1, 1, 0, 0}};
 
 #define ON(...) ((const Record[PLACES]){__VA_ARGS__})
 #define NONE {0, NULL}
@@ -163,9 +164,11 @@ static int call(int entry, const Record *r, uint16_t *words, uint64_t *outs)
     case COUNTEREXAMPLE:
         return bikuvoa_counterexample(schema.at, schema.words, query.at, query.words, view.at, view.words, state.at,
                                       state.words, outs);
-    default:
+    case DECIDE:
         return bikuvoa_decide(schema.at, schema.words, query.at, query.words, view.at, view.words, words, r[LENT].words, outs,
                               outs + 1);
+    default:
+        return bikuvoa_holds(schema.at, schema.words, query.at, query.words, view.at, view.words, outs);
     }
 }
 
@@ -239,6 +242,17 @@ static void verdicts(void)
     check(untouched_from(written.words), "words after the record", 1);
 }
 
+/* Whoever wants no state gets the same verdicts, and what stands beside the out value is not touched. */
+static void yes_or_no(void)
+{
+    uint64_t outs[3] = {97, 98, 99};
+    check(bikuvoa_holds(x.at, x.words, person.at, person.words, everything.at, everything.words, outs + 1) == 0
+              && outs[1] == 1, "held without a state", 0);
+    check(bikuvoa_holds(x.at, x.words, everything.at, everything.words, person.at, person.words, outs + 1) == 0
+              && outs[1] == 0, "open without a state", 1);
+    check(outs[0] == 97 && outs[2] == 99, "beside the out value", 2);
+}
+
 /* Refusals. */
 
 static const int FIRST_NUMBER[PLACES] = {BIKUVOA_BAD_SCHEMA_SHAPE, BIKUVOA_BAD_CONCEPT_SHAPE, BIKUVOA_BAD_CONCEPT_SHAPE,
@@ -306,6 +320,10 @@ static void checks(void)
     bikuvoa_reached(&seven);
     check(bikuvoa_query_refusal(x.at, x.words, seven.words, seven.length) == BIKUVOA_ACCEPTED, "a query of seven steps", 0);
     check(bikuvoa_view_refusal(x.at, x.words, seven.words, seven.length) == BIKUVOA_BAD_STEPS, "a view of seven steps", 0);
+    uint64_t held = 99;
+    Record steps = {seven.length, seven.words};
+    check(call(HOLDS, ON(x, person, steps), NULL, &held) == BIKUVOA_BAD_STEPS && held == 99, "seven steps in a view", 0);
+    check(call(HOLDS, ON(x, steps, person), NULL, &held) == 0 && held == 1, "seven steps in a query", 0);
     check(bikuvoa_view_refusal(x.at, x.words, person.at, person.words) == BIKUVOA_ACCEPTED, "a view", 0);
     check(bikuvoa_query_refusal(x.at, x.words, NULL, 0) == BIKUVOA_BAD_CONCEPT_SHAPE, "no query", 0);
     check(bikuvoa_view_refusal(x.at, x.words, NULL, 0) == BIKUVOA_BAD_CONCEPT_SHAPE, "no view", 0);
@@ -364,98 +382,188 @@ static void limits(void)
     check(call(LEGAL, ON(schema, NONE, NONE, state), NULL, &out) == 7, "15,381 facts", 6);
 }
 
-/* The stack of a call: it runs on a painted one, and what it took is up to the deepest byte that has lost its paint. */
+/* The stack of a call. It runs on a painted one of twice the documented size, and what it took is up to the deepest byte that
+ * has lost its paint; then on one of just that size, below which nothing can be touched: a call that takes more kills the
+ * test. */
 
 #define PAINT 0xA5
 #define NO_ENTRY ENTRIES
+#define AREA (2 * BIKUVOA_STACK_BYTES)
 
 typedef struct {
     int entry;
     const Record *r;
     int returned;
+    uint64_t outs[2];
 } Job;
 
 static void *run(void *argument)
 {
     Job *job = argument;
-    uint64_t outs[2];
-    job->returned = job->entry == NO_ENTRY ? 0 : call(job->entry, job->r, lent, outs);
+    job->returned = job->entry == NO_ENTRY ? 0 : call(job->entry, job->r, lent, job->outs);
     return NULL;
+}
+
+static unsigned char *area(void)
+{
+    static unsigned char *at;
+    if (!at) at = mmap(NULL, AREA, PROT_READ | PROT_WRITE, MAP_PRIVATE | MAP_ANONYMOUS, -1, 0);
+    if (at == MAP_FAILED) abort();
+    return at;
+}
+
+/* The most objects that a decision has written. */
+static uint64_t most_objects;
+
+static void run_on(unsigned char *stack, size_t bytes, int entry, const Record *r)
+{
+    Job job = {entry, r, 99, {0, 0}};
+    pthread_attr_t attributes;
+    pthread_t thread;
+    if (pthread_attr_init(&attributes) || pthread_attr_setstack(&attributes, stack, bytes)
+        || pthread_create(&thread, &attributes, run, &job) || pthread_join(thread, NULL)) abort();
+    pthread_attr_destroy(&attributes);
+    check(job.returned == 0, "a call on a stack of its own", entry);
+    if (entry == DECIDE && job.outs[0] > most_objects) most_objects = job.outs[0];
 }
 
 static size_t stack_of(int entry, const Record *r)
 {
-    _Alignas(4096) static unsigned char stack[2 * BIKUVOA_STACK_BYTES];
-    Job job = {entry, r, 99};
-    pthread_attr_t attributes;
-    pthread_t thread;
+    unsigned char *stack = area();
     size_t deepest = 0;
-    memset(stack, PAINT, sizeof stack);
-    if (pthread_attr_init(&attributes) || pthread_attr_setstack(&attributes, stack, sizeof stack)
-        || pthread_create(&thread, &attributes, run, &job) || pthread_join(thread, NULL)) abort();
-    pthread_attr_destroy(&attributes);
-    check(job.returned == 0, "a call on a painted stack", entry);
-    while (deepest < sizeof stack && stack[deepest] == PAINT) deepest++;
-    return sizeof stack - deepest;
+    memset(stack, PAINT, AREA);
+    run_on(stack, AREA, entry, r);
+    while (deepest < AREA && stack[deepest] == PAINT) deepest++;
+    return AREA - deepest;
 }
 
-/* A path of one step in another, each in a common object but for one that is merely reached; nested in the first or in the
- * last of two paths. */
-static void nest(bikuvoa_concept *c, int depth, int reached, int last)
+static void run_on_documented(int entry, const Record *r)
 {
+    unsigned char *stack = area();
+    size_t below = AREA - BIKUVOA_STACK_BYTES;
+    if (mprotect(stack, below, PROT_NONE)) abort();
+    run_on(stack + below, BIKUVOA_STACK_BYTES, entry, r);
+    if (mprotect(stack, below, PROT_READ | PROT_WRITE)) abort();
+}
+
+/* The deepest concepts: of one class, with steps along all attributes in turn. */
+
+typedef struct {
+    bikuvoa_concept c;
+    size_t class, attributes;
+} Deep;
+
+#define ALL_REACHED -1
+
+/* As many classes as so many tokens can join, each with all that follow it. */
+static void join(Deep *d, int tokens)
+{
+    for (int i = 0; i < (tokens + 1) / 2; i++) bikuvoa_class(&d->c, d->class);
+    for (int i = 1; i < (tokens + 1) / 2; i++) bikuvoa_both(&d->c);
+}
+
+/* A path of one step in another, and what is left of the tokens in the innermost. Each is in a common object, by the first or
+ * by the last of two paths, unless it is merely reached: the one of that depth, or all. */
+static void nest(Deep *d, int depth, int reached, int last, int tokens)
+{
+    int merely = reached == ALL_REACHED || reached == depth;
     if (depth == 0) {
-        bikuvoa_class(c, PERSON);
+        join(d, tokens);
         return;
     }
-    if (depth != reached && last) bikuvoa_empty(c);
-    bikuvoa_empty(c);
-    nest(c, depth - 1, reached, last);
-    bikuvoa_forward(c, WEARS);
-    if (depth == reached) {
-        bikuvoa_reached(c);
+    if (!merely && last) bikuvoa_empty(&d->c);
+    bikuvoa_empty(&d->c);
+    nest(d, depth - 1, reached, last, tokens - (merely ? 3 : 4));
+    bikuvoa_forward(&d->c, (size_t)depth % d->attributes);
+    if (merely) {
+        bikuvoa_reached(&d->c);
         return;
     }
-    if (!last) bikuvoa_empty(c);
-    bikuvoa_common(c);
+    if (!last) bikuvoa_empty(&d->c);
+    bikuvoa_common(&d->c);
 }
 
-static void measure(bikuvoa_concept deep, int row, size_t *most)
+static void put_path(Deep *d, int first, int steps, int backward)
 {
-    const Record r[PLACES] = {x, {deep.length, deep.words}, person, s, WORDS(BIKUVOA_DECIDE_WORDS)};
+    bikuvoa_empty(&d->c);
+    for (int i = first; i < first + steps; i++) {
+        size_t attribute = (size_t)i % d->attributes;
+        bikuvoa_class(&d->c, d->class);
+        if (backward) bikuvoa_backward(&d->c, attribute);
+        else bikuvoa_forward(&d->c, attribute);
+    }
+    bikuvoa_reached(&d->c);
+}
+
+/* A query of the last shape, paths of four steps from one object, has the most objects to ask the view for. */
+enum { NESTED = 10, JOINED = NESTED, FORWARD_PATH, BACKWARD_PATH, STAR, SHAPES };
+
+static Record deepest(uint16_t *words, size_t class, size_t attributes, int steps, int shape)
+{
+    static const int REACHED_AT[NESTED / 2] = {1, 6, 11, 16, ALL_REACHED};
+    Deep d = {bikuvoa_start_concept(words, BIKUVOA_MAX_CONCEPT_WORDS), class, attributes};
+    if (shape < NESTED) {
+        nest(&d, steps, REACHED_AT[shape / 2], shape % 2, BIKUVOA_MAX_TOKENS);
+    } else if (shape == JOINED) {
+        join(&d, BIKUVOA_MAX_TOKENS);
+    } else if (shape != STAR) {
+        put_path(&d, 0, steps, shape == BACKWARD_PATH);
+    } else {
+        bikuvoa_class(&d.c, class);
+        for (int first = 0; first + 4 <= steps; first += 4) {
+            put_path(&d, first, 4, 0);
+            bikuvoa_both(&d.c);
+        }
+    }
+    return (Record){d.c.length, words};
+}
+
+/* They are tried over the small records of above, and at the limits. There a person needs every attribute, and each value is in
+ * all classes but the last; the largest state obeys that. */
+static Record limit_schema(void)
+{
+    size_t words = BIKUVOA_SCHEMA_WORDS(22 + 2 * 8);
+    bikuvoa_schema schema = bikuvoa_start_schema(take(words), words, 24, 8, 4);
+    for (size_t a = 0; a < 22; a++) bikuvoa_subclass(&schema, a, a + 1);
+    for (size_t p = 0; p < 8; p++) {
+        bikuvoa_necessary(&schema, PERSON, p);
+        bikuvoa_typing(&schema, PERSON, p, 0);
+    }
+    return (Record){schema.length, schema.words};
+}
+
+static void measure(const Record *r, int row, size_t *most)
+{
     size_t own = stack_of(NO_ENTRY, r);
     for (int entry = 0; entry < ENTRIES; entry++) {
         size_t bytes = stack_of(entry, r) - own;
         check(bytes <= BIKUVOA_STACK_BYTES, "the stack", 10 * row + entry);
+        run_on_documented(entry, r);
         if (bytes > most[entry]) most[entry] = bytes;
     }
 }
 
 static void stacks(void)
 {
-    static uint16_t words[BIKUVOA_MAX_CONCEPT_WORDS];
-    size_t most[ENTRIES] = {0, 0, 0, 0};
-    bikuvoa_concept c;
-    for (int reached = 1; reached <= BIKUVOA_QUERY_STEPS; reached += 5)
-        for (int last = 0; last < 2; last++) {
-            c = bikuvoa_start_concept(words, BIKUVOA_MAX_CONCEPT_WORDS);
-            nest(&c, BIKUVOA_QUERY_STEPS, reached, last);
-            check(c.length == BIKUVOA_MAX_CONCEPT_WORDS && words[BIKUVOA_AT_STEPS] == BIKUVOA_QUERY_STEPS, "deepest", reached);
-            measure(c, 2 * reached + last, most);
+    static uint16_t query_words[BIKUVOA_MAX_CONCEPT_WORDS], view_words[BIKUVOA_MAX_CONCEPT_WORDS];
+    size_t most[ENTRIES] = {0};
+    bikuvoa_state largest = largest_state();
+    const Record lent_words = WORDS(BIKUVOA_DECIDE_WORDS), full = {largest.length, largest.words};
+    for (int limits = 0; limits < 2; limits++) {
+        Record schema = limits ? limit_schema() : x, state = limits ? full : s;
+        size_t attributes = schema.at[BIKUVOA_AT_ATTRIBUTES], last_class = schema.at[BIKUVOA_AT_CLASSES] - 1u;
+        for (int shape = 0; shape < SHAPES; shape++) {
+            Record query = deepest(query_words, PERSON, attributes, BIKUVOA_QUERY_STEPS, shape);
+            measure(ON(schema, query, person, state, lent_words), 100 * limits + shape, most);
+            query = deepest(query_words, PERSON, attributes, BIKUVOA_QUERY_STEPS, STAR);
+            Record view = deepest(view_words, last_class, attributes, BIKUVOA_VIEW_STEPS, shape);
+            measure(ON(schema, query, view, state, lent_words), 100 * limits + SHAPES + shape, most);
         }
-    c = bikuvoa_start_concept(words, BIKUVOA_MAX_CONCEPT_WORDS);
-    for (int i = 0; i < BIKUVOA_MAX_TOKENS / 2; i++) bikuvoa_class(&c, PERSON);
-    for (int i = 1; i < BIKUVOA_MAX_TOKENS / 2; i++) bikuvoa_both(&c);
-    measure(c, 98, most);
-    c = bikuvoa_start_concept(words, BIKUVOA_MAX_CONCEPT_WORDS);
-    bikuvoa_empty(&c);
-    for (int i = 0; i < BIKUVOA_QUERY_STEPS; i++) {
-        bikuvoa_class(&c, PERSON);
-        bikuvoa_backward(&c, WEARS);
     }
-    bikuvoa_reached(&c);
-    measure(c, 99, most);
-    printf("stack, measured in KB: select %zu, legal %zu, counterexample %zu, decide %zu; allowed %d\n", most[SELECT] / 1024,
-           most[LEGAL] / 1024, most[COUNTEREXAMPLE] / 1024, most[DECIDE] / 1024, BIKUVOA_STACK_BYTES / 1024);
+    check(most_objects > 300, "a verdict that needs many objects", 0);
+    printf("stack, measured in KB: select %zu, legal %zu, counterexample %zu, decide %zu, holds %zu; allowed %d\n",
+           most[SELECT] / 1024, most[LEGAL] / 1024, most[COUNTEREXAMPLE] / 1024, most[DECIDE] / 1024, most[HOLDS] / 1024,
+           BIKUVOA_STACK_BYTES / 1024);
 }
 
 int main(void)
@@ -465,6 +573,7 @@ int main(void)
     twelve_states();
     counterexamples();
     verdicts();
+    yes_or_no();
     refusals();
     nulls();
     checks();

@@ -18,7 +18,7 @@ HEADER = (ROOT / "include" / "bikuvoa.h").read_text()
 SOURCE = {name: (ROOT / "crates" / path).read_text() for name, path in {
     "schema": "records/src/schema.rt", "concept": "records/src/concept.rt", "state": "records/src/state.rt",
     "select": "judge/src/select.rt", "legal": "judge/src/legal.rt", "counterexample": "judge/src/counterexample.rt",
-    "decide": "decide/src/lib.rt"}.items()}
+    "decide": "decide/src/lib.rt", "holds": "decide/src/holds.rt"}.items()}
 held, faults = [], []
 
 
@@ -256,7 +256,7 @@ def readme(axioms, sizes, entries, most, least):
     for name, n in most.items():
         said = f"{n:,} in a view" if "view" in name else f"{n:,} {name}".replace(" of a ", " in a ")
         hold(f"README.md says {said}", bool(re.search(rf"(?<![\d,]){said}\b", text)), True)
-    hold("README.md, stack", re.findall(r"give each thread (\d+) MB", text), [str(C["STACK_BYTES"] >> 20)])
+    hold("README.md, stack", re.findall(r"give each thread (\d+) KB", text), [str(C["STACK_BYTES"] >> 10)])
     hold("README.md, lent words", re.findall(r"([\d,]+) words \(([\d,]+) bytes\)", text), [(f"{least:,}", f"{2 * least:,}")])
     printed = [line.strip() for line in re.search(r"^    OPEN.*\n(?:    \d+ \d+\n)+", README, re.M).group().splitlines()]
     hold("README.md, the state", printed[1:], [f"{left} {right}" for left, right in entries])

@@ -13,7 +13,7 @@
 #define OWN_FRAMES 65536
 
 enum { HELD, OPEN, REFUSED, DEEP, CASES };
-enum { SELECT, LEGAL, COUNTEREXAMPLE, DECIDE, ENTRIES };
+enum { SELECT, LEGAL, COUNTEREXAMPLE, DECIDE, HOLDS, ENTRIES };
 
 typedef struct {
     bikuvoa_concept query, view;
@@ -80,9 +80,11 @@ static void call(const Case *c, int entry, Answer *a)
     else if (entry == COUNTEREXAMPLE)
         a->returned = bikuvoa_counterexample(schema.words, schema.length, q.words, q.length, v.words, v.length, s.words,
                                              s.length, &a->outs[0]);
-    else
+    else if (entry == DECIDE)
         a->returned = bikuvoa_decide(schema.words, schema.length, q.words, q.length, v.words, v.length, a->lent,
                                      BIKUVOA_DECIDE_WORDS, &a->outs[0], &a->outs[1]);
+    else
+        a->returned = bikuvoa_holds(schema.words, schema.length, q.words, q.length, v.words, v.length, &a->outs[0]);
 }
 
 static int same(const Answer *a, const Answer *b)
@@ -117,8 +119,11 @@ int main(void)
     make_cases();
     for (int i = 0; i < CASES; i++)
         for (int entry = 0; entry < ENTRIES; entry++) call(&cases[i], entry, &expected[i][entry]);
-    for (int i = 0; i < CASES; i++)
-        if (expected[i][DECIDE].returned != NUMBERS[i] || (expected[i][DECIDE].outs[0] == 0) != (i == HELD)) return 1;
+    for (int i = 0; i < CASES; i++) {
+        const Answer *decide = &expected[i][DECIDE], *holds = &expected[i][HOLDS];
+        if (decide->returned != NUMBERS[i] || (decide->outs[0] == 0) != (i == HELD)) return 1;
+        if (holds->returned != NUMBERS[i] || (holds->outs[0] == 1) != (i == HELD)) return 1;
+    }
     if (pthread_barrier_init(&barrier, NULL, THREADS) || pthread_attr_init(&attributes)
         || pthread_attr_setstacksize(&attributes, BIKUVOA_STACK_BYTES + OWN_FRAMES)) return 1;
     for (int i = 0; i < THREADS; i++) {
