@@ -1,6 +1,6 @@
 //! A call of an entry, as the words that are passed.
 
-use bikuvoa::layout::{Layout, CONCEPT, SCHEMA, STATE};
+use bikuvoa::layout::{Layout, CONCEPT, DECIDE_WORDS, SCHEMA, STATE};
 
 #[derive(Clone, Copy, Debug, PartialEq, Eq)]
 pub enum Entry {
@@ -8,6 +8,7 @@ pub enum Entry {
     Legal,
     Counterexample,
     Decide,
+    Holds,
 }
 
 /// What a caller passes, in the order in which it is checked.
@@ -21,11 +22,12 @@ pub enum Place {
 }
 
 impl Entry {
-    pub const ALL: [Entry; 4] = [
+    pub const ALL: [Entry; 5] = [
         Entry::Select,
         Entry::Legal,
         Entry::Counterexample,
         Entry::Decide,
+        Entry::Holds,
     ];
 
     pub fn places(self) -> &'static [Place] {
@@ -35,6 +37,16 @@ impl Entry {
             Entry::Legal => &[Schema, State],
             Entry::Counterexample => &[Schema, Query, View, State],
             Entry::Decide => &[Schema, Query, View, Lent],
+            Entry::Holds => &[Schema, Query, View],
+        }
+    }
+
+    /// How many words must be lent, over a state of so many objects.
+    pub fn least_lent(self, objects: usize) -> usize {
+        match self {
+            Entry::Select => objects,
+            Entry::Decide => DECIDE_WORDS,
+            Entry::Legal | Entry::Counterexample | Entry::Holds => 0,
         }
     }
 
@@ -44,6 +56,7 @@ impl Entry {
             Entry::Legal => "legal",
             Entry::Counterexample => "counterexample",
             Entry::Decide => "decide",
+            Entry::Holds => "holds",
         }
     }
 }
@@ -84,6 +97,13 @@ pub struct Call {
 }
 
 impl Call {
+    /// How many words the records have that the entry takes.
+    pub fn words(&self) -> usize {
+        let places = self.entry.places().iter();
+        let records = places.filter_map(|&place| self.record(place));
+        records.map(<[u16]>::len).sum()
+    }
+
     /// The record at a place; lent words are none.
     pub fn record(&self, place: Place) -> Option<&[u16]> {
         match place {

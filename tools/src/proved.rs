@@ -21,6 +21,7 @@ impl Answerer for Proved {
             Entry::Legal => raw::legal(schema, state, out),
             Entry::Counterexample => raw::counterexample(schema, query, view, state, out),
             Entry::Decide => raw::decide(schema, query, view, lent, out, second),
+            Entry::Holds => raw::holds(schema, query, view, out),
         }
     }
 }

@@ -33,18 +33,25 @@ impl State {
 /// schema, some are a fact away from it, and a few reach the limits.
 pub fn state(prng: &mut Prng, signature: Signature, schema: &Schema, query: &Concept) -> State {
     match prng.below(1000) {
-        0..=1 => full(prng, signature),
-        2..=7 => scattered(prng, signature, OBJECTS).state(prng),
-        8..=27 => {
-            let state = small(prng, signature, schema, query);
-            copies(prng, &state)
-        }
+        0..=27 => large(prng, signature, schema, query),
         28..=79 => scattered(prng, signature, 60).state(prng),
         80..=249 => {
             let state = small(prng, signature, schema, query);
             one_fact_away(prng, signature, &state)
         }
         _ => small(prng, signature, schema, query),
+    }
+}
+
+/// A state of up to as many objects as there may be.
+pub fn large(prng: &mut Prng, signature: Signature, schema: &Schema, query: &Concept) -> State {
+    match prng.below(14) {
+        0 => full(prng, signature),
+        1..=3 => scattered(prng, signature, OBJECTS).state(prng),
+        _ => {
+            let state = small(prng, signature, schema, query);
+            copies(prng, &state)
+        }
     }
 }
 

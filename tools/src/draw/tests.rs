@@ -3,17 +3,18 @@
 use super::repair::{model, Values};
 use super::triple::Triple;
 use super::{state, wide};
+use crate::call::Entry;
 use crate::prng::Prng;
 use bikuvoa::layout;
-use reference::entries::{decide, legal, select, DECIDE_WORDS};
+use reference::entries::{holds, legal, select};
 use reference::records;
 use reference::semantics::{first_broken, selected};
 
 const DRAWS: usize = 2_000;
 
 fn assert_accepted(triple: &Triple) {
-    let call = triple.decide_call();
-    let verdict = decide(&call.schema, &call.query, &call.view, DECIDE_WORDS);
+    let call = triple.verdict_call(Entry::Holds);
+    let verdict = holds(&call.schema, &call.query, &call.view);
     assert!(verdict.is_ok(), "{verdict:?} of {triple:?}");
 }
 

@@ -5,7 +5,7 @@ use super::{concept, schema, witness, Scale};
 use crate::call::{Call, Entry};
 use crate::prng::Prng;
 use bikuvoa::layout::token::{self, BACKWARD, BOTH, EVERYTHING, FORWARD};
-use bikuvoa::layout::{self, Pair, Signature, DECIDE_WORDS, MAX_TOKENS, QUERY_STEPS, VIEW_STEPS};
+use bikuvoa::layout::{self, Pair, Signature, MAX_TOKENS, QUERY_STEPS, VIEW_STEPS};
 use reference::records;
 use reference::syntax::{Concept, Schema};
 
@@ -88,9 +88,9 @@ impl Triple {
         (schema, query.expect("a drawn query is accepted"))
     }
 
-    /// The call that asks for the verdict.
-    pub fn decide_call(&self) -> Call {
-        self.call(Entry::Decide, Vec::new(), DECIDE_WORDS)
+    /// The call that asks for the verdict, of an entry that takes no state.
+    pub fn verdict_call(&self, entry: Entry) -> Call {
+        self.call(entry, Vec::new(), entry.least_lent(0))
     }
 
     /// A call with the triple's records and a state's.

@@ -134,10 +134,11 @@ pub fn nested() -> Vec<u16> {
     filled(tokens)
 }
 
-/// One path of as many steps.
+/// One common object with as many steps in its two paths.
 pub fn flat() -> Vec<u16> {
     let mut tokens = Vec::new();
-    put_path(&mut tokens, 1, (0..DEPTH).map(|_| forward(0)));
-    tokens.push(REACHED);
+    put_path(&mut tokens, 1, (0..DEPTH / 2).map(|_| forward(0)));
+    put_path(&mut tokens, 1, (DEPTH / 2..DEPTH).map(|_| forward(0)));
+    tokens.push(COMMON);
     filled(tokens)
 }

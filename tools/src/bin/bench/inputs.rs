@@ -1,22 +1,13 @@
 //! The inputs that are measured.
 
-use crate::{concepts, schemas, states};
-use bikuvoa::layout::{DECIDE_WORDS, MAX_OBJECTS};
+use crate::{concepts, drawn, schemas, states};
+use bikuvoa::layout::MAX_OBJECTS;
 use tools::call::{Call, Entry};
 
 /// A call and what is said of it in the table.
 pub struct Input {
     pub size: &'static str,
     pub call: Call,
-}
-
-impl Input {
-    /// How many words the records have.
-    pub fn words(&self) -> usize {
-        let places = self.call.entry.places().iter();
-        let records = places.filter_map(|&place| self.call.record(place));
-        records.map(<[u16]>::len).sum()
-    }
 }
 
 pub const SMALL: &str = "small";
@@ -38,11 +29,24 @@ pub fn by_entry_and_size() -> Vec<Input> {
     inputs
 }
 
+/// The calls of an entry on an input, both by the names that the tables have.
+pub fn named(entry: &str, input: &str) -> Result<Vec<Call>, String> {
+    let found = Entry::ALL.into_iter().find(|found| found.name() == entry);
+    let entry = found.ok_or(format!("no entry {entry}"))?;
+    match input {
+        SMALL => Ok(vec![small(entry)]),
+        MIDDLE => Ok(vec![middle(entry)]),
+        LARGEST => Ok(vec![largest(entry)]),
+        "random" => Ok(drawn::calls(entry)),
+        _ => Err(format!("no input {input}")),
+    }
+}
+
 /// Schema X and state S of document 01, with a concept of two steps; for decide
-/// its triple of a need and a view that steps forward and back.
+/// and holds its triple of a need and a view that steps forward and back.
 fn small(entry: Entry) -> Call {
     let schema = match entry {
-        Entry::Decide => schemas::need(),
+        Entry::Decide | Entry::Holds => schemas::need(),
         _ => schemas::straps(),
     };
     let query = match entry {
@@ -55,7 +59,7 @@ fn small(entry: Entry) -> Call {
         query,
         view: concepts::there_and_back(),
         state: states::straps(),
-        lent: lent(entry, 3),
+        lent: entry.least_lent(3),
     }
 }
 
@@ -67,7 +71,7 @@ fn middle(entry: Entry) -> Call {
         query: concepts::patients(),
         view: concepts::known_patients(),
         state: states::all_alike(60, schemas::MEDICAL),
-        lent: lent(entry, 60),
+        lent: entry.least_lent(60),
     }
 }
 
@@ -76,10 +80,10 @@ fn middle(entry: Entry) -> Call {
 fn largest(entry: Entry) -> Call {
     let (schema, state) = match entry {
         Entry::Select | Entry::Counterexample => (schemas::dense(), states::dense()),
-        Entry::Legal | Entry::Decide => (schemas::largest(), states::largest()),
+        Entry::Legal | Entry::Decide | Entry::Holds => (schemas::largest(), states::largest()),
     };
     let (query, view) = match entry {
-        Entry::Decide => (concepts::star(), concepts::six_needs()),
+        Entry::Decide | Entry::Holds => (concepts::star(), concepts::six_needs()),
         _ => (concepts::long_paths(), concepts::six_steps()),
     };
     Call {
@@ -88,14 +92,7 @@ fn largest(entry: Entry) -> Call {
         query,
         view,
         state,
-        lent: lent(entry, MAX_OBJECTS.into()),
-    }
-}
-
-fn lent(entry: Entry, objects: usize) -> usize {
-    match entry {
-        Entry::Decide => DECIDE_WORDS,
-        _ => objects,
+        lent: entry.least_lent(MAX_OBJECTS.into()),
     }
 }
 

@@ -1,7 +1,9 @@
 //! Measures the proved code and the reference on the same inputs and prints
-//! tables in the form of docs/BENCHMARKS.md.
+//! tables in the form of docs/BENCHMARKS.md. With an entry and an input, as the
+//! tables name them, it only calls the proved code, for tools/profile to watch.
 
 mod concepts;
+mod drawn;
 mod inputs;
 mod schemas;
 mod states;
@@ -9,27 +11,72 @@ mod table;
 mod timing;
 
 use inputs::Input;
-use table::Row;
+use std::time::{Duration, Instant};
+use table::{Random, Row};
+use timing::{OF_MANY_INPUTS, OF_ONE_INPUT};
+use tools::call::{Call, Entry};
+
+/// How long calls are repeated at least.
+const SPELL: Duration = Duration::from_secs(2);
 
 fn main() -> Result<(), String> {
+    let arguments: Vec<String> = std::env::args().skip(1).collect();
+    match &arguments[..] {
+        [] => print_tables(),
+        [entry, input] => repeat(&inputs::named(entry, input)?),
+        _ => Err("bench [ENTRY INPUT]".to_string()),
+    }
+}
+
+fn repeat(calls: &[Call]) -> Result<(), String> {
+    let calls = calls.iter().map(timing::proved);
+    let mut calls: Vec<_> = calls.collect::<Result<_, _>>()?;
+    let start = Instant::now();
+    while start.elapsed() < SPELL {
+        calls.iter_mut().for_each(|call| call());
+    }
+    Ok(())
+}
+
+fn print_tables() -> Result<(), String> {
     let inputs = inputs::by_entry_and_size();
     let rows = inputs.iter().map(measure);
     let rows: Vec<Row> = rows.collect::<Result<_, _>>()?;
     table::print_calls(&rows);
     table::print_growth(&rows);
+    let random = Entry::ALL.iter().map(|&entry| measure_random(entry));
+    let random: Vec<Random> = random.collect::<Result<_, _>>()?;
+    table::print_random(&random);
     let (nested, flat) = (inputs::nested(), inputs::flat());
-    let (nested, flat) = timing::in_turn(timing::proved(&nested)?, timing::proved(&flat)?);
+    let (nested, flat) = (timing::proved(&nested)?, timing::proved(&flat)?);
+    let (nested, flat) = timing::in_turn(OF_ONE_INPUT, nested, flat);
     table::print_nesting(nested, flat);
     Ok(())
 }
 
 fn measure(input: &Input) -> Result<Row, String> {
     let call = &input.call;
-    let (proved, reference) = timing::in_turn(timing::proved(call)?, timing::reference(call));
+    let (proved, reference) = (timing::proved(call)?, timing::reference(call));
+    let (proved, reference) = timing::in_turn(OF_ONE_INPUT, proved, reference);
     Ok(Row {
         entry: call.entry,
         size: input.size,
-        words: input.words(),
+        words: call.words(),
+        proved,
+        reference,
+    })
+}
+
+fn measure_random(entry: Entry) -> Result<Random, String> {
+    let calls = drawn::calls(entry);
+    let times = calls.iter().map(|call| {
+        let (proved, reference) = (timing::proved(call)?, timing::reference(call));
+        Ok(timing::in_turn(OF_MANY_INPUTS, proved, reference))
+    });
+    let (proved, reference) = times.collect::<Result<_, String>>()?;
+    Ok(Random {
+        entry,
+        words: calls.iter().map(Call::words).collect(),
         proved,
         reference,
     })

@@ -1,5 +1,6 @@
 //! The tables, as Markdown.
 
+use crate::drawn::CALLS;
 use crate::inputs::{LARGEST, SMALL};
 use tools::call::Entry;
 
@@ -26,6 +27,53 @@ pub fn print_calls(rows: &[Row]) {
             row.reference / row.proved
         );
     }
+}
+
+/// Random calls of an entry, with the words and the times in nanoseconds of each.
+pub struct Random {
+    pub entry: Entry,
+    pub words: Vec<usize>,
+    pub proved: Vec<f64>,
+    pub reference: Vec<f64>,
+}
+
+pub fn print_random(rows: &[Random]) {
+    println!();
+    println!(
+        "| {CALLS} random calls of | words | mean, proved | mean, reference | reference / proved \
+         | median, proved | median, reference | reference / proved | proved is faster in |"
+    );
+    println!("|---|--:|--:|--:|--:|--:|--:|--:|--:|");
+    for row in rows {
+        print!("| {} | {} |", row.entry.name(), range(&row.words));
+        for of in [mean, median] {
+            let (proved, reference) = (of(&row.proved), of(&row.reference));
+            let ratio = reference / proved;
+            print!(" {} | {} | {ratio:.1} |", time(proved), time(reference));
+        }
+        let pairs = row.proved.iter().zip(&row.reference);
+        let faster = pairs.filter(|(proved, reference)| proved < reference);
+        println!(" {} |", faster.count());
+    }
+}
+
+/// The least and the most.
+fn range(numbers: &[usize]) -> String {
+    match (numbers.iter().min(), numbers.iter().max()) {
+        (Some(least), Some(most)) => format!("{least} to {most}"),
+        _ => String::new(),
+    }
+}
+
+fn mean(times: &[f64]) -> f64 {
+    times.iter().sum::<f64>() / times.len() as f64
+}
+
+/// The upper one of two in the middle.
+fn median(times: &[f64]) -> f64 {
+    let mut times = times.to_vec();
+    times.sort_by(f64::total_cmp);
+    times[times.len() / 2]
 }
 
 pub fn print_growth(rows: &[Row]) {

@@ -7,17 +7,30 @@ use std::time::{Duration, Instant};
 use tools::call::{Answerer, Call, Entry};
 use tools::proved::Proved;
 
-const ROUNDS: usize = 61;
-/// How long a round lasts at least: short enough that some round goes by
-/// without the machine turning to other work.
-const ROUND: Duration = Duration::from_millis(3);
+/// How many rounds there are, and how long each lasts at least: short enough
+/// that some round goes by without the machine turning to other work.
+pub struct Rounds {
+    count: usize,
+    least: Duration,
+}
+
+pub const OF_ONE_INPUT: Rounds = Rounds {
+    count: 61,
+    least: Duration::from_millis(3),
+};
+/// Of an input that is one of many, where what is amiss with one hardly counts.
+pub const OF_MANY_INPUTS: Rounds = Rounds {
+    count: 21,
+    least: Duration::from_micros(200),
+};
 
 /// Nanoseconds for each of two calls. Their rounds take turns, so that a slow
 /// spell of the machine meets both.
-pub fn in_turn(mut one: impl FnMut(), mut other: impl FnMut()) -> (f64, f64) {
-    let (ones, others) = (calls_in_a_round(&mut one), calls_in_a_round(&mut other));
+pub fn in_turn(rounds: Rounds, mut one: impl FnMut(), mut other: impl FnMut()) -> (f64, f64) {
+    let ones = calls_in_a_round(rounds.least, &mut one);
+    let others = calls_in_a_round(rounds.least, &mut other);
     let mut best = (f64::INFINITY, f64::INFINITY);
-    for _ in 0..ROUNDS {
+    for _ in 0..rounds.count {
         best.0 = best.0.min(per_call(&mut one, ones));
         best.1 = best.1.min(per_call(&mut other, others));
     }
@@ -31,12 +44,12 @@ fn per_call(call: &mut impl FnMut(), calls: u32) -> f64 {
 }
 
 /// Doubles the calls until they fill a round, which also warms the caches.
-fn calls_in_a_round(call: &mut impl FnMut()) -> u32 {
+fn calls_in_a_round(least: Duration, call: &mut impl FnMut()) -> u32 {
     let mut calls = 1;
     loop {
         let start = Instant::now();
         (0..calls).for_each(|_| call());
-        if start.elapsed() >= ROUND {
+        if start.elapsed() >= least {
             return calls;
         }
         calls *= 2;
@@ -70,6 +83,7 @@ pub fn reference(call: &Call) -> impl FnMut() + '_ {
             Entry::Legal => keep(entries::legal(schema, state)),
             Entry::Counterexample => keep(entries::counterexample(schema, query, view, state)),
             Entry::Decide => keep(entries::decide(schema, query, view, lent.len())),
+            Entry::Holds => keep(entries::holds(schema, query, view)),
         }
     }
 }

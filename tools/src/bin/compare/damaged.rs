@@ -1,7 +1,6 @@
 //! Damaged records at each place of each entry.
 
 use crate::verify::{verify, Difference};
-use bikuvoa::layout::DECIDE_WORDS;
 use bikuvoa::Refusal;
 use std::fmt;
 use tools::call::{Answerer, Call, Entry};
@@ -58,11 +57,7 @@ pub fn run(tested: &dyn Answerer, prng: &mut Prng, count: usize) -> Result<Tally
 fn sound(prng: &mut Prng, entry: Entry, triple: &Triple) -> Call {
     let (schema, query) = triple.decoded();
     let state = state::state(prng, triple.signature, &schema, &query);
-    let lent = match entry {
-        Entry::Decide => DECIDE_WORDS,
-        _ => state.objects,
-    };
-    triple.call(entry, state.words(), lent)
+    triple.call(entry, state.words(), entry.least_lent(state.objects))
 }
 
 /// Damages one place, and now and then each later one as well, since the first

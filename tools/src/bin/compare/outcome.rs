@@ -85,6 +85,10 @@ pub fn expected(call: &Call) -> Expected {
             Ok(Verdict::Held) => Ok(0),
             Err(number) => Err(number),
         },
+        Entry::Holds => {
+            let verdict = entries::holds(schema, query, view);
+            verdict.map(|verdict| u64::from(verdict == Verdict::Held))
+        }
     };
     Expected::Exactly(outcome.with(answer))
 }

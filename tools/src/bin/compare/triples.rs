@@ -1,8 +1,8 @@
-//! Verdicts on random triples.
+//! Decide and holds on random triples.
 
 use crate::verify::{verify, Difference};
 use std::fmt;
-use tools::call::Answerer;
+use tools::call::{Answerer, Entry};
 use tools::draw::triple::Triple;
 use tools::draw::wide;
 use tools::prng::Prng;
@@ -94,7 +94,9 @@ fn decide(
     source: Source,
     tally: &mut Tally,
 ) -> Result<bool, Box<Difference>> {
-    let [objects, _] = verify(tested, &triple.decide_call())?.outs;
+    // Both entries are held to the one verdict of the reference, so they agree.
+    verify(tested, &triple.verdict_call(Entry::Holds))?;
+    let [objects, _] = verify(tested, &triple.verdict_call(Entry::Decide))?.outs;
     let held = objects == 0;
     let mix = &mut tally.mixes[source as usize];
     mix.held += usize::from(held);

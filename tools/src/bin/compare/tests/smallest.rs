@@ -19,17 +19,24 @@ fn entries(layout: &Layout, words: &[u16]) -> usize {
 #[test]
 fn of_a_wrong_verdict() {
     let held_to_all: Spoil = |answer| {
-        if answer.number == 0 {
+        if answer.is_of(Entry::Decide) {
             answer.lent.copy_from_slice(&answer.before);
             answer.outs[0] = 0;
         }
     };
-    let found = triple_difference(&Spoilt(held_to_all));
-    let call = smallest(held_to_all, *found);
-    // No axiom, a query of one token, and a view of at most one step.
-    assert_eq!(entries(&SCHEMA, &call.schema), 0);
-    assert_eq!(entries(&CONCEPT, &call.query), 1);
-    assert!(entries(&CONCEPT, &call.view) <= 4, "{:?}", call.view);
+    let yes_to_all: Spoil = |answer| {
+        if answer.is_of(Entry::Holds) {
+            answer.outs[0] = 1;
+        }
+    };
+    for spoil in [held_to_all, yes_to_all] {
+        let found = triple_difference(&Spoilt(spoil));
+        let call = smallest(spoil, *found);
+        // No axiom, a query of one token, and a view of at most one step.
+        assert_eq!(entries(&SCHEMA, &call.schema), 0);
+        assert_eq!(entries(&CONCEPT, &call.query), 1);
+        assert!(entries(&CONCEPT, &call.view) <= 4, "{:?}", call.view);
+    }
 }
 
 #[test]

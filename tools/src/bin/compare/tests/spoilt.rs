@@ -41,8 +41,14 @@ impl Answerer for Spoilt {
 }
 
 impl Answer<'_> {
+    /// Whether decide has written a state.
     fn is_open(&self) -> bool {
-        self.number == 0 && self.outs[0] > 0
+        self.is_of(Entry::Decide) && self.outs[0] > 0
+    }
+
+    /// Whether it is that entry's, and no refusal.
+    pub fn is_of(&self, entry: Entry) -> bool {
+        self.entry == entry && self.number == 0
     }
 
     /// How many words the written state has.
@@ -54,8 +60,10 @@ impl Answer<'_> {
 #[test]
 fn held_to_all() {
     let found = triple_difference(&Spoilt(|answer| {
-        answer.lent.copy_from_slice(&answer.before);
-        answer.outs[0] = 0;
+        if answer.is_open() {
+            answer.lent.copy_from_slice(&answer.before);
+            answer.outs[0] = 0;
+        }
     }));
     assert_eq!(found.fault, "held and not open");
 }
@@ -63,9 +71,11 @@ fn held_to_all() {
 #[test]
 fn open_with_one_stock_state() {
     triple_difference(&Spoilt(|answer| {
-        let stock = layout::state(1, &[]);
-        answer.lent[..stock.len()].copy_from_slice(&stock);
-        *answer.outs = [1, 0];
+        if answer.is_of(Entry::Decide) {
+            let stock = layout::state(1, &[]);
+            answer.lent[..stock.len()].copy_from_slice(&stock);
+            *answer.outs = [1, 0];
+        }
     }));
 }
 
@@ -119,7 +129,7 @@ fn a_word_after_the_state() {
 #[test]
 fn the_last_lent_word_of_a_held_triple() {
     let found = triple_difference(&Spoilt(|answer| {
-        if !answer.is_open() {
+        if answer.is_of(Entry::Decide) && !answer.is_open() {
             answer.lent[LAST_WORD] ^= 1;
         }
     }));
@@ -128,6 +138,42 @@ fn the_last_lent_word_of_a_held_triple() {
         fault.starts_with(&format!("lent word {LAST_WORD} ")),
         "{fault}"
     );
+}
+
+#[test]
+fn yes_to_all() {
+    triple_difference(&Spoilt(|answer| {
+        if answer.is_of(Entry::Holds) {
+            answer.outs[0] = 1;
+        }
+    }));
+}
+
+#[test]
+fn no_to_all() {
+    triple_difference(&Spoilt(|answer| {
+        if answer.is_of(Entry::Holds) {
+            answer.outs[0] = 0;
+        }
+    }));
+}
+
+#[test]
+fn a_yes_that_is_not_1() {
+    triple_difference(&Spoilt(|answer| {
+        if answer.is_of(Entry::Holds) {
+            answer.outs[0] *= 2;
+        }
+    }));
+}
+
+#[test]
+fn a_second_out_value_of_holds() {
+    triple_difference(&Spoilt(|answer| {
+        if answer.is_of(Entry::Holds) {
+            answer.outs[1] = 0;
+        }
+    }));
 }
 
 #[test]
@@ -208,6 +254,25 @@ fn an_out_value_of_a_refused_call() {
             answer.outs[1] = 0;
         }
     }));
+}
+
+#[test]
+fn a_no_of_a_refused_call() {
+    damage_difference(&Spoilt(|answer| {
+        if answer.number == 6 && answer.entry == Entry::Holds {
+            answer.outs[0] = 0;
+        }
+    }));
+}
+
+#[test]
+fn holds_refused_for_want_of_lent_words() {
+    let found = damage_difference(&Spoilt(|answer| {
+        if answer.is_of(Entry::Holds) {
+            answer.number = 11;
+        }
+    }));
+    assert_eq!(found.fault, "returned 11 and not 0");
 }
 
 #[test]

@@ -1,0 +1,40 @@
+//! Random calls, which are nobody's best case: a fixed seed, and all sizes that
+//! the drawing code has.
+
+use tools::call::{Call, Entry};
+use tools::draw::triple::Triple;
+use tools::draw::{state, wide};
+use tools::prng::Prng;
+
+/// How many calls of each entry.
+pub const CALLS: usize = 200;
+const SEED: u64 = 1;
+
+/// The calls of an entry. All entries have the same triples and states.
+pub fn calls(entry: Entry) -> Vec<Call> {
+    let mut prng = Prng::new(SEED);
+    let calls = (0..CALLS).map(|place| call(&mut prng, entry, place));
+    calls.collect()
+}
+
+/// A few of the states go up to the limits.
+fn call(prng: &mut Prng, entry: Entry, place: usize) -> Call {
+    let triple = triple(prng, place);
+    let (schema, query) = triple.decoded();
+    let state = match place % 10 {
+        0 => state::large,
+        _ => state::state,
+    };
+    let state = state(prng, triple.signature, &schema, &query);
+    triple.call(entry, state.words(), entry.least_lent(state.objects))
+}
+
+/// Half of the triples have a view that has to do with the query, as those that
+/// are put to a store will have, and a few need states of hundreds of objects.
+fn triple(prng: &mut Prng, place: usize) -> Triple {
+    match (place % 50, place % 2) {
+        (0, _) => wide::triple(prng),
+        (_, 0) => Triple::random(prng),
+        _ => Triple::followed(prng),
+    }
+}
