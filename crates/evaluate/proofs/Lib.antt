@@ -1,5 +1,6 @@
 -- Laws that several proofs here share.
 mod RowLaws
+mod BlockLaws
 mod FactLaws
 mod TokenLaws
 mod SelectionLaws

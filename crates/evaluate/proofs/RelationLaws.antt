@@ -1,17 +1,18 @@
--- What the loops over the rows of relations keep: the identity, a row put into another, a step's facts, and what two
--- relations share.
+-- What the loops over the rows of relations keep: rows cleared, the identity, a step's facts, and what two relations share.
 use Prim.Native.Nat.{ℕ, _+_, _*_, _/_, _%_, _^_, _≤_, _<_}
 use mathlib.Core.Bool.{Bool, false, So, not, _&&_, _||_, and-false, or-false}
 use mathlib.Core.List.{List}
 use mathlib.Core.Logic.{_⊎_, inl, inr, ⊎-elim}
-use mathlib.Core.Path.{_≡_, refl, sym, ap, ap₂, _∙_}
-use native.Mathlib.Decide.{ℕ-discrete, decLt}
+use mathlib.Core.Path.{_≡_, refl, sym, ap, ap₂, subst, _∙_}
+use native.Mathlib.Decide.{decLt}
+use native.Mathlib.Nat.{add-mul, mul-assoc, mul-le-mul, mul-le-mul-right, le-mul-of-pos-right, zero-mul, one-mul}
 use native.Mathlib.Omega.{arith}
 use borrow.Author.Tests.{eq-eqb, ne-eqb, eqb-true, lt-ltb, le-ltb, ltb-true}
 use lib.Bits.{bitAnd, bitOr}
 use lib.Dec.{eqb, ltb}
 use lib.ListN.{length, getD, replicate}
-use Rattle.records.specs.Layout.{stateLayout, entries, objectPart}
+use Rattle.records.specs.Finite.{any}
+use Rattle.records.specs.Layout.{stateLayout, entries}
 use Rattle.records.specs.StateRecord.{objects, kindAt}
 use Rattle.records.proofs.General.BoolLaws.{and-left, and-both, and-map, or-true-cases, or-left, or-right, test-same, eqb-same}
 use Rattle.records.proofs.General.FiniteLaws.{any-zero, any-more, any-same}
@@ -24,150 +25,193 @@ use Rattle.evaluate.specs.declared.steps.Step.{Step}
 use Rattle.evaluate.specs.declared.steps.Ends.{Ends}
 use Rattle.evaluate.specs.declared.relation.Bases.{Bases}
 use Rattle.evaluate.specs.Selection.{setWords}
-use Rattle.evaluate.specs.Rows.{rowBit, Filled, SharedRow}
+use Rattle.evaluate.specs.Rows.{Filled, SharedRow}
 use Rattle.evaluate.specs.Steps.{originAt, targetAt, lands, objectIn}
-use Rattle.evaluate.specs.Relation.{noWord, Outside, Room, Diagonal, Joined, Merged, Followed, carries, Stepped, Gathered, Shared}
-use Rattle.evaluate.proofs.RowLaws.{row-word, row-same}
+use Rattle.evaluate.specs.Blocks.{blockWords, blockBits, blocksFor, relationWords, cell, Merged}
+use Rattle.evaluate.specs.Relation.{Outside, Room, Cleared, Diagonal, Followed, carries, Stepped, Gathered, Shared}
+use Rattle.evaluate.proofs.RowLaws.{row-same}
+use Rattle.evaluate.proofs.BlockLaws.{row-fits, row-one, block-word}
 use Rattle.evaluate.proofs.StepLaws.{object-end, end-few, Facing, facing-within}
 
 pub room-same : {n : ℕ} {b : Bases} {ws us : List ℕ} → Room n b ws → length us ≡ length ws → Room n b us
-room-same z e = record { rel = rw e (z .rel); spare = rw e (z .spare); apart = z .apart; few = rw e (z .few) }
+room-same z e =
+    record { rel = rw e (z .rel); spare = rw e (z .spare); apart = z .apart; wide = z .wide; few = rw e (z .few) }
 
 -- the two exchanged
-pub room-turned : {n : ℕ} {b : Bases} {ws : List ℕ} → Room n b ws → Room n (record { rel = b .spare; spare = b .rel }) ws
-room-turned z = record { rel = z .spare; spare = z .rel; apart = ⊎-elim inr inl (z .apart); few = z .few }
+pub room-turned : {n : ℕ} {b : Bases} {ws : List ℕ} → Room n b ws → Room n (record { rel = b .spare; spare = b .rel; blocks = b .blocks }) ws
+room-turned z =
+    record { rel = z .spare; spare = z .rel; apart = ⊎-elim inr inl (z .apart); wide = z .wide; few = z .few }
 
--- of three relations the last is spare
-module _ {n m : ℕ} {ws : List ℕ} (e : n ≡ m) (h : 3 * (m * setWords) ≤ length ws) (few : length ws < 2 ^ 32) where
-  pub room-first : Room m (record { rel = 0; spare = 2 * n }) ws
-  room-first = record { rel = omega arith; spare = omega arith; apart = inl (omega arith); few = few }
+-- the relation's words, and the end of a row of either
+module _ {n : ℕ} (b : Bases) {ws : List ℕ} (z : Room n b ws) where
+  pub room-words : b .rel * b .blocks * blockWords + n * b .blocks * blockWords ≤ length ws
+  room-words = omega (arith, z .rel, add-mul (b .rel) n (b .blocks))
 
-  pub room-second : Room m (record { rel = n; spare = 2 * n }) ws
-  room-second = record { rel = omega arith; spare = omega arith; apart = inl (omega arith); few = few }
+  pub room-row : {t : ℕ} → t < n → ((b .rel + t + 1) * b .blocks * blockWords ≤ length ws) × ((b .spare + t + 1) * b .blocks * blockWords ≤ length ws)
+  room-row {t} l =
+      (omega (arith, z .rel, mul-le-mul-right {m = b .rel + t + 1} {n = b .rel + n} (b .blocks) (omega arith)), omega (arith, z .spare, mul-le-mul-right {m = b .spare + t + 1} {n = b .spare + n} (b .blocks) (omega arith)))
 
--- rows of noughts, and the others as they were
-module _ (base n : ℕ) {ws vs : List ℕ} (z : Filled noWord (base * setWords) (n * setWords) ws vs) where
-  cleared-row : (t o : ℕ) → t < n → o < objectPart → rowBit vs (base + t) o ≡ false
-  cleared-row t o l m =
-      row-word vs (base + t) o
-      ∙ ap (λ (x : ℕ). bit x (o % wordBits)) (ap (λ (i : ℕ). getD vs i 0) (omega arith) ∙ z .done (t * setWords + o / wordBits) (omega arith))
-      ∙ word-zero (o % wordBits)
+  -- a row that there is has a block, so that its number is no larger than the words
+  pub room-few : {t : ℕ} → t < n → (b .rel + t < 2 ^ 32) × (b .spare + t < 2 ^ 32)
+  room-few {t} l =
+      let some : 0 < b .blocks = omega (arith, z .wide) in
+      (omega (arith, z .rel, z .few, le-mul-of-pos-right (b .rel + n) some), omega (arith, z .spare, z .few, le-mul-of-pos-right (b .spare + n) some))
 
-  cleared-other : (k o : ℕ) → Outside k base n → o < objectPart → rowBit vs k o ≡ rowBit ws k o
-  cleared-other k o h m =
-      row-word vs k o
-      ∙ ap (λ (x : ℕ). bit x (o % wordBits)) (z .kept (k * setWords + o / wordBits) (λ i j q. ⊎-elim (λ l. omega arith) (λ l. omega arith) h))
-      ∙ sym (row-word ws k o)
+-- more objects need no fewer words
+pub relation-most : {n m : ℕ} → n ≤ m → relationWords n ≤ relationWords m
+relation-most {n} {m} l = omega (arith, mul-le-mul {m₁ = blocksFor n} {m₂ = blocksFor m} l (omega arith))
+
+-- of three relations the last is spare, until the first two are there
+module _ {n m k : ℕ} (ws : List ℕ) (e : n ≡ m) (q : k ≡ blocksFor n) (h : relationWords m ≤ length ws) (few : length ws < 2 ^ 32) where
+  three : (i : ℕ) → i ≤ 2 → (i * n + n) * k * blockWords ≤ length ws
+  three i l =
+      let enough : relationWords n ≤ length ws = rw e h in
+      omega (arith, enough, ap (λ (x : ℕ). n * x) q, add-mul (i * n) n k, mul-assoc i n k, mul-le-mul-right (n * k) l)
+
+  first : (0 + n) * k * blockWords ≤ length ws
+  first = rw (zero-mul n) at (three 0 (omega arith))
+
+  second : (n + n) * k * blockWords ≤ length ws
+  second = rw (one-mul n) at (three 1 (omega arith))
+
+  room-at : {r s : ℕ} → r + n ≤ s → (r + n) * k * blockWords ≤ length ws → (s + n) * k * blockWords ≤ length ws → Room m (record { rel = r; spare = s; blocks = k }) ws
+  room-at {r} {s} l rel spare =
+      subst (λ (x : ℕ). Room x (record { rel = r; spare = s; blocks = k }) ws) e
+      (record { rel = rel; spare = spare; apart = inl l; wide = omega arith; few = few })
+
+  pub room-first : Room m (record { rel = 0; spare = 2 * n; blocks = k }) ws
+  room-first = room-at (omega arith) first (three 2 (omega arith))
+
+  pub room-second : Room m (record { rel = n; spare = 2 * n; blocks = k }) ws
+  room-second = room-at (omega arith) second (three 2 (omega arith))
+
+  pub room-both : Room m (record { rel = 0; spare = n; blocks = k }) ws
+  room-both = room-at (omega arith) first second
+
+-- Rows cleared.
+
+-- a word with no bits
+abbrev pub noWord : ℕ → ℕ
+noWord i = 0
+
+pub cleared-of : {n : ℕ} (b : Bases) {ws vs : List ℕ} → Filled noWord (b .rel * b .blocks * blockWords) (n * b .blocks * blockWords) ws vs → Cleared n b ws vs
+cleared-of {n} b {ws} {vs} z =
+    record {
+      size = z .size;
+      bits = λ t o l m. block-word vs ((b .rel + t) * b .blocks) o
+          ∙ ap (λ (x : ℕ). bit x (o % wordBits)) (ap (λ (i : ℕ). getD vs i 0) (omega (arith, add-mul (b .rel) t (b .blocks))) ∙ z .done (t * b .blocks * blockWords + o / wordBits) (omega (arith, row-fits t n (b .blocks) l)))
+          ∙ word-zero (o % wordBits);
+      kept = λ k o out m. block-word vs (k * b .blocks) o
+          ∙ ap (λ (x : ℕ). bit x (o % wordBits)) (z .kept (k * b .blocks * blockWords + o / wordBits) (λ i j q. ⊎-elim (λ l. omega (arith, q, j, row-fits k (b .rel) (b .blocks) l)) (λ l. omega (arith, q, j, mul-le-mul-right (b .blocks) l, add-mul (b .rel) n (b .blocks))) out))
+          ∙ sym (block-word ws (k * b .blocks) o);
+    }
 
 -- The identity.
 
 -- the first d objects to themselves
-pub record Marking (base n d : ℕ) (ws vs : List ℕ) : Type 0 where
+pub record Marking (n : ℕ) (b : Bases) (d : ℕ) (ws vs : List ℕ) : Type 0 where
   pub size : length vs ≡ length ws
-  bits : (t o : ℕ) → t < n → o < objectPart → rowBit vs (base + t) o ≡ (ltb t d && eqb o t)
-  kept : (k o : ℕ) → Outside k base n → o < objectPart → rowBit vs k o ≡ rowBit ws k o
+  bits : (t o : ℕ) → t < n → o < b .blocks * blockBits → cell (b .blocks) vs (b .rel + t) o ≡ (ltb t d && eqb o t)
+  kept : (k o : ℕ) → Outside k (b .rel) n → o < b .blocks * blockBits → cell (b .blocks) vs k o ≡ cell (b .blocks) ws k o
 
-module _ {base n : ℕ} where
-  pub marking-none : {ws vs : List ℕ} → Filled noWord (base * setWords) (n * setWords) ws vs → Marking base n 0 vs vs
+-- bits of rows of k blocks are the same only in one row
+cell-one : {r s : ℕ} (k : ℕ) {o d : ℕ} → o < k * blockBits → d < k * blockBits → r * k * blockBits + o ≡ s * k * blockBits + d → r ≡ s
+cell-one {r} {s} k {o} {d} l m e = row-one k {i = o / blockBits} {j = d / blockBits} (omega arith) (omega arith) (omega arith)
+
+module _ {n : ℕ} {b : Bases} where
+  pub marking-none : {ws vs : List ℕ} → Cleared n b ws vs → Marking n b 0 vs vs
   marking-none z =
       record {
         size = refl;
-        bits = λ t o l m. cleared-row base n z t o l m ∙ sym (ap (λ (b : Bool). b && eqb o t) (le-ltb t 0 (omega arith)));
-        kept = λ k o _ m. refl;
+        bits = λ t o l m. z .bits t o l m ∙ sym (ap (λ (c : Bool). c && eqb o t) (le-ltb t 0 (omega arith)));
+        kept = λ k o out m. refl;
       }
 
-  pub marking-more : {d : ℕ} {ws vs us : List ℕ} → Marking base n d ws vs → d < n → n ≤ objectPart → Inserted vs ((base + d) * objectPart + d) us → Marking base n (d + 1) ws us
-  marking-more {d} {ws} {vs} {us} z room few h =
+  pub marking-more : {d : ℕ} {ws vs us : List ℕ} → Marking n b d ws vs → d < n → n ≤ b .blocks * blockBits
+      → Inserted vs ((b .rel + d) * b .blocks * blockBits + d) us
+      → Marking n b (d + 1) ws us
+  marking-more {d} {ws} {vs} {us} z room wide h =
       record {
         size = h .size ∙ z .size;
-        bits = λ t o l m. h .bits ((base + t) * objectPart + o) ∙ rw (z .bits t o l m) (test-same _ _ (there t o m) (back t o));
-        kept = λ k o out m. h .bits (k * objectPart + o) ∙ rw (ne-eqb (k * objectPart + o) ((base + d) * objectPart + d) (λ q. ⊎-elim (λ l. omega arith) (λ l. omega arith) out)) (or-false (rowBit vs k o)) ∙ z .kept k o out m;
+        bits = λ t o l m. h .bits ((b .rel + t) * b .blocks * blockBits + o) ∙ rw (z .bits t o l m) (test-same _ _ (there t o m) (back t o));
+        kept = λ k o out m. h .bits (k * b .blocks * blockBits + o) ∙ rw (ne-eqb (k * b .blocks * blockBits + o) place (λ q. outside k out (cell-one (b .blocks) m (omega arith) q))) (or-false (cell (b .blocks) vs k o)) ∙ z .kept k o out m;
       }
     where
-      here : ℕ → ℕ → Bool
-      here t o = eqb ((base + t) * objectPart + o) ((base + d) * objectPart + d)
+      place : ℕ
+      place = (b .rel + d) * b .blocks * blockBits + d
 
-      there : (t o : ℕ) → o < objectPart → So (ltb t d && eqb o t || here t o) → So (ltb t (d + 1) && eqb o t)
+      here : ℕ → ℕ → Bool
+      here t o = eqb ((b .rel + t) * b .blocks * blockBits + o) place
+
+      outside : (k : ℕ) → Outside k (b .rel) n → k ≡ b .rel + d → ⊥
+      outside k out q = ⊎-elim (λ l. omega (arith, l, q)) (λ l. omega (arith, l, q)) out
+
+      there : (t o : ℕ) → o < b .blocks * blockBits → So (ltb t d && eqb o t || here t o) → So (ltb t (d + 1) && eqb o t)
       there t o m e =
-          ⊎-elim (λ p. let (a, b) = and-map (ltb-true t d) (eqb-true o t) p in and-both _ _ (lt-ltb t (d + 1) (omega arith)) (eq-eqb o t b))
-          (λ p. let q = eqb-true ((base + t) * objectPart + o) ((base + d) * objectPart + d) p in
-          and-both _ _ (lt-ltb t (d + 1) (omega arith)) (eq-eqb o t (omega arith)))
+          ⊎-elim (λ p. let (l, q) = and-map (ltb-true t d) (eqb-true o t) p in and-both _ _ (lt-ltb t (d + 1) (omega arith)) (eq-eqb o t q))
+          (λ p. let q = eqb-true ((b .rel + t) * b .blocks * blockBits + o) place p in
+          let same : b .rel + t ≡ b .rel + d = cell-one (b .blocks) m (omega arith) q in
+          let row = ap (λ (r : ℕ). r * b .blocks * blockBits) same in
+          and-both _ _ (lt-ltb t (d + 1) (omega arith)) (eq-eqb o t (omega (arith, q, row, same))))
           (or-true-cases (ltb t d && eqb o t) (here t o) e)
 
       back : (t o : ℕ) → So (ltb t (d + 1) && eqb o t) → So (ltb t d && eqb o t || here t o)
       back t o e =
-          let (a, b) = and-map (ltb-true t (d + 1)) (eqb-true o t) e in pick a b (decLt t d)
+          let (l, q) = and-map (ltb-true t (d + 1)) (eqb-true o t) e in pick l q (decLt t d)
         where
           pick : t < d + 1 → o ≡ t → Dec (t < d) → So (ltb t d && eqb o t || here t o)
-          pick a b (yes l) = or-left _ (here t o) (and-both _ _ (lt-ltb t d l) (eq-eqb o t b))
-          pick a b (no l) = or-right (ltb t d && eqb o t) _ (eq-eqb ((base + t) * objectPart + o) ((base + d) * objectPart + d) (omega arith))
+          pick l q (yes m) = or-left _ (here t o) (and-both _ _ (lt-ltb t d m) (eq-eqb o t q))
+          pick l q (no m) =
+              let same : t ≡ d = omega arith in
+              or-right (ltb t d && eqb o t) _ (eq-eqb ((b .rel + t) * b .blocks * blockBits + o) place (ap₂ (λ (x y : ℕ). (b .rel + x) * b .blocks * blockBits + y) same (q ∙ same)))
 
-  pub marking-all : {d : ℕ} {ws us vs : List ℕ} → Filled noWord (base * setWords) (n * setWords) ws us → Marking base n d us vs → n ≤ d
-      → Diagonal base n ws vs
+  pub marking-all : {d : ℕ} {ws us vs : List ℕ} → Cleared n b ws us → Marking n b d us vs → n ≤ d → Diagonal n b ws vs
   marking-all {d} f z l =
       record {
         size = z .size ∙ f .size;
-        bits = λ t o k m. z .bits t o k m ∙ ap (λ (b : Bool). b && eqb o t) (lt-ltb t d (omega arith));
-        kept = λ k o out m. z .kept k o out m ∙ cleared-other base n f k o out m;
+        bits = λ t o k m. z .bits t o k m ∙ ap (λ (c : Bool). c && eqb o t) (lt-ltb t d (omega arith));
+        kept = λ k o out m. z .kept k o out m ∙ f .kept k o out m;
       }
-
--- A set put into a row, and a row put into another.
-
-abbrev pub joinedWord : List ℕ → ℕ → List ℕ → ℕ → ℕ
-joinedWord ws r set i = bitOr (getD ws (r * setWords + i) 0) (getD set i 0)
-
--- the word that a turn reads is still that of the beginning
-pub joining-word : {ws vs : List ℕ} (r : ℕ) (set : List ℕ) {j : ℕ} → Filled (joinedWord ws r set) (r * setWords) j ws vs → joinedWord vs r set j ≡ joinedWord ws r set j
-joining-word r set {j} z = ap (λ (x : ℕ). bitOr x (getD set j 0)) (z .kept (r * setWords + j) (λ i m q. omega arith))
-
-pub joined-of : {ws vs : List ℕ} {r : ℕ} {set : List ℕ} → Filled (joinedWord ws r set) (r * setWords) setWords ws vs → Joined ws r set vs
-unfolding bitAt
-joined-of {ws} {vs} {r} {set} z = record { size = z .size; bits = λ k o l. pick k o l (ℕ-discrete k r) }
-  where
-    pick : (k o : ℕ) → o < objectPart → Dec (k ≡ r) → rowBit vs k o ≡ (rowBit ws k o || eqb k r && bitAt set o)
-    pick k o l (yes q) =
-        rw (eq-eqb k r q, q, row-word vs r o, row-word ws r o, z .done (o / wordBits) (omega arith))
-        (word-or _ _ (o % wordBits))
-    pick k o l (no n) =
-        rw (ne-eqb k r n, row-word vs k o, row-word ws k o, z .kept (k * setWords + o / wordBits) (λ i m q. n (omega arith)))
-        (sym (or-false _))
-
-pub merged-by : {ws vs set : List ℕ} {r s : ℕ} → SharedRow ws ws s set → Joined ws r set vs → Merged ws r s vs
-merged-by {ws} {vs} {set} {r} {s} h z =
-    record {
-      size = z .size;
-      bits = λ k o l. z .bits k o l ∙ ap (λ (b : Bool). rowBit ws k o || eqb k r && b) (row-same ws s h .bits o l);
-    }
 
 -- What two rows share, put into a set.
 
+-- where the words of row r begin
+abbrev pub rowStart : ℕ → ℕ → ℕ
+rowStart k r = r * k * blockWords
+
 abbrev pub gatheredWord : List ℕ → List ℕ → ℕ → ℕ → ℕ → ℕ
-gatheredWord set ws r s i = bitOr (getD set i 0) (bitAnd (getD ws (r * setWords + i) 0) (getD ws (s * setWords + i) 0))
+gatheredWord set ws p q i = bitOr (getD set i 0) (bitAnd (getD ws (p + i) 0) (getD ws (q + i) 0))
 
-pub gathering-word : {set : List ℕ} (ws : List ℕ) {vs : List ℕ} (r s : ℕ) {j : ℕ} → Filled (gatheredWord set ws r s) 0 j set vs → gatheredWord vs ws r s j ≡ gatheredWord set ws r s j
-gathering-word {set} ws r s {j} z =
-    ap (λ (x : ℕ). bitOr x (bitAnd (getD ws (r * setWords + j) 0) (getD ws (s * setWords + j) 0))) (z .kept j (λ i m q. omega arith))
+pub gathering-word : {set : List ℕ} (ws : List ℕ) {vs : List ℕ} (p q : ℕ) {j : ℕ} → Filled (gatheredWord set ws p q) 0 j set vs → gatheredWord vs ws p q j ≡ gatheredWord set ws p q j
+gathering-word {set} ws p q {j} z =
+    ap (λ (x : ℕ). bitOr x (bitAnd (getD ws (p + j) 0) (getD ws (q + j) 0))) (z .kept j (λ i m e. omega arith))
 
-pub gathered-of : {set ws vs : List ℕ} {r s : ℕ} → Filled (gatheredWord set ws r s) 0 setWords set vs → Gathered set ws r s vs
+pub gathered-of : {k : ℕ} {set ws vs : List ℕ} {r s : ℕ} → Filled (gatheredWord set ws (rowStart k r) (rowStart k s)) 0 (k * blockWords) set vs → Gathered k set ws r s vs
 unfolding bitAt
-gathered-of {set} {ws} {vs} {r} {s} z =
+gathered-of {k} {set} {ws} {vs} {r} {s} z =
     record {
       size = z .size;
       bits = λ o l. ap (λ (x : ℕ). bit x (o % wordBits)) (ap (λ (i : ℕ). getD vs i 0) (omega arith) ∙ z .done (o / wordBits) (omega arith))
           ∙ word-or _ _ (o % wordBits)
-          ∙ ap (λ (b : Bool). bitAt set o || b) (word-and _ _ (o % wordBits) ∙ ap₂ (λ (a b : Bool). a && b) (sym (row-word ws r o)) (sym (row-word ws s o)));
+          ∙ ap (λ (b : Bool). bitAt set o || b) (word-and _ _ (o % wordBits) ∙ ap₂ (λ (a b : Bool). a && b) (sym (block-word ws (r * k) o)) (sym (block-word ws (s * k) o)));
+      kept = λ o l. ap (λ (x : ℕ). bit x (o % wordBits)) (z .kept (o / wordBits) (λ i m q. omega arith));
     }
 
-module _ {ws : List ℕ} {p q : ℕ} where
-  pub shared-none : Shared ws p q 0 (replicate setWords 0)
+module _ {b : Bases} {ws : List ℕ} where
+  pub shared-none : Shared 0 b ws (replicate setWords 0)
   shared-none =
-      record { size = refl; bits = λ o l. zero-bits setWords o ∙ sym (any-zero (λ t. rowBit ws (p + t) o && rowBit ws (q + t) o)) }
+      record {
+        size = refl;
+        bits = λ o l. zero-bits setWords o ∙ sym (any-zero (λ t. cell (b .blocks) ws (b .rel + t) o && cell (b .blocks) ws (b .spare + t) o));
+        none = λ o l. zero-bits setWords o;
+      }
 
-  pub shared-more : {t : ℕ} {set vs : List ℕ} → Shared ws p q t set → Gathered set ws (p + t) (q + t) vs → Shared ws p q (t + 1) vs
+  pub shared-more : {t : ℕ} {set vs : List ℕ} → Shared t b ws set → Gathered (b .blocks) set ws (b .rel + t) (b .spare + t) vs → Shared (t + 1) b ws vs
   shared-more {t} z h =
       record {
         size = h .size ∙ z .size;
-        bits = λ o l. h .bits o l ∙ rw (z .bits o l, any-more (λ t. rowBit ws (p + t) o && rowBit ws (q + t) o) t);
+        bits = λ o l. h .bits o l ∙ rw (z .bits o l, any-more (λ t. cell (b .blocks) ws (b .rel + t) o && cell (b .blocks) ws (b .spare + t) o) t);
+        none = λ o l. h .kept o l ∙ z .none o l;
       }
 
 -- A step.
@@ -179,7 +223,7 @@ carries-kind w x landings a b ws t o i h = eqb-true (kindAt w i) (x .kind) (and-
 
 module _ {w : List ℕ} {e : Ends} {set : List ℕ} {b : Bases} where
   pub followed-more : {i g c : ℕ} {ws vs : List ℕ} → g ≡ objectIn w (e .targets) i → c ≡ objectIn w (e .origins) i → So (bitAt set g)
-      → Merged ws (b .rel + g) (b .spare + c) vs
+      → Merged (b .blocks) ws (b .rel + g) (b .spare + c) vs
       → Followed w e set b ws i vs
   followed-more {i} {g} {c} t-is o-is h m =
       record {
@@ -192,17 +236,15 @@ module _ {w : List ℕ} {e : Ends} {set : List ℕ} {b : Bases} where
   followed-outside {i} {g} {ws} t-is h =
       record {
         size = refl;
-        bits = λ k o l. rw (← t-is, h) (sym (or-false (rowBit ws k o)));
+        bits = λ k o l. rw (← t-is, h) (sym (or-false (cell (b .blocks) ws k o)));
       }
 
 module _ {w : List ℕ} {x : Step} {landings : List ℕ} {a : ℕ} {b : Bases} where
-  pub stepped-none : {n from : ℕ} {ws vs : List ℕ} → n ≡ objects w → Filled noWord (b .rel * setWords) (n * setWords) ws vs
-      → KindParts w (x .kind) from from
-      → Stepped w x landings a b vs from vs
+  pub stepped-none : {n from : ℕ} {ws vs : List ℕ} → n ≡ objects w → Cleared n b ws vs → KindParts w (x .kind) from from → Stepped w x landings a b vs from vs
   stepped-none {n} {from} {ws} {vs} e z p =
       record {
         size = refl;
-        bits = λ t o l m. cleared-row (b .rel) n z t o (omega arith) m ∙ sym (kind-before w (carries w x landings a b vs t o) (carries-kind w x landings a b vs t o) p);
+        bits = λ t o l m. z .bits t o (omega arith) m ∙ sym (kind-before w (carries w x landings a b vs t o) (carries-kind w x landings a b vs t o) p);
         kept = λ k o h m. refl;
       }
 
@@ -220,7 +262,7 @@ module _ {w : List ℕ} {x : Step} {landings : List ℕ} {a : ℕ} {b : Bases} w
           eqb-same (b .rel + t) (b .rel + targetAt w x i) t (targetAt w x i) (λ q. omega arith) (λ q. omega arith),
           z .kept (b .spare + originAt w x i) o (⊎-elim (λ p. inr (omega (arith, p, origin))) (λ p. inl (omega (arith, p, origin))) (room .apart)) m,
         );
-        kept = λ k o out m. carried k o m ∙ rw (ne-eqb k (b .rel + targetAt w x i) (λ q. ⊎-elim (λ l. omega (arith, q, l, target)) (λ l. omega (arith, q, l, target)) out), and-false (lands w x landings a i)) (or-false (rowBit ws k o)) ∙ z .kept k o out m;
+        kept = λ k o out m. carried k o m ∙ rw (ne-eqb k (b .rel + targetAt w x i) (λ q. ⊎-elim (λ l. omega (arith, q, l, target)) (λ l. omega (arith, q, l, target)) out), and-false (lands w x landings a i)) (or-false (cell (b .blocks) ws k o)) ∙ z .kept k o out m;
       }
     where
       j : i < entries stateLayout w
@@ -232,14 +274,14 @@ module _ {w : List ℕ} {x : Step} {landings : List ℕ} {a : ℕ} {b : Bases} w
       origin : originAt w x i < objects w
       origin = f .ok .inside (x .backward) i j
 
-      carried : (k o : ℕ) → o < objectPart
-          → rowBit vs k o ≡ (rowBit ws k o || lands w x landings a i && (eqb k (b .rel + targetAt w x i) && rowBit ws (b .spare + originAt w x i) o))
+      carried : (k o : ℕ) → o < b .blocks * blockBits
+          → cell (b .blocks) vs k o ≡ (cell (b .blocks) ws k o || lands w x landings a i && (eqb k (b .rel + targetAt w x i) && cell (b .blocks) ws (b .spare + originAt w x i) o))
       carried k o m =
           h .bits k o m
           ∙ rw (f .ends, object-end (f .ok) (not (x .backward)) i j, object-end (f .ok) (x .backward) i j, row-same landings a r .bits (targetAt w x i) (end-few (f .ok) (not (x .backward)) i j), eq-eqb (kindAt w i) (x .kind) (kind-within _ (f .first) (f .last) _ lower upper))
 
   -- what the rows held that were cleared for the step is not asked for
-  pub stepped-all : {n i to : ℕ} {ws us vs : List ℕ} → n ≡ objects w → Filled noWord (b .rel * setWords) (n * setWords) ws us
+  pub stepped-all : {n i to : ℕ} {ws us vs : List ℕ} → n ≡ objects w → Cleared n b ws us
       → Room (objects w) b ws
       → ((i : ℕ) → i < entries stateLayout w → originAt w x i < objects w)
       → Stepped w x landings a b us i vs
@@ -252,8 +294,8 @@ module _ {w : List ℕ} {x : Step} {landings : List ℕ} {a : ℕ} {b : Bases} w
         size = z .size ∙ f .size;
         bits = λ t o j m. z .bits t o j m ∙ sym (kind-after w (carries w x landings a b us t o) (carries-kind w x landings a b us t o) p l k)
             ∙ any-same (carries w x landings a b us t o) (carries w x landings a b ws t o) (entries stateLayout w) (λ i h _.
-            ap (λ (c : Bool). lands w x landings a i && (eqb t (targetAt w x i) && c)) (cleared-other (b .rel) n f (b .spare + originAt w x i) o (apart i (inside i h)) m));
-        kept = λ k o out m. z .kept k o out m ∙ cleared-other (b .rel) n f k o (rw e out) m;
+            ap (λ (c : Bool). lands w x landings a i && (eqb t (targetAt w x i) && c)) (f .kept (b .spare + originAt w x i) o (apart i (inside i h)) m));
+        kept = λ k o out m. z .kept k o out m ∙ f .kept k o (rw e out) m;
       }
     where
       apart : (i : ℕ) → originAt w x i < objects w → Outside (b .spare + originAt w x i) (b .rel) n

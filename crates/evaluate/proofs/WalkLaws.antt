@@ -155,26 +155,26 @@ reach-ends {v = v} {p = p} {set = set} z h r =
 
 -- The walk forward, for "common object".
 
-pub relate-on : {w v landings : List ℕ} {at m : ℕ} {x : Step} {rel spare : ℕ} {us ws vs : List ℕ} → Walk w v landings (suc at)
+pub relate-on : {w v landings : List ℕ} {at m : ℕ} {x : Step} {rel spare k : ℕ} {us ws vs : List ℕ} → Walk w v landings (suc at)
     → So (stepAt w at)
     → m ≡ startOf w at 1
     → Followable v x
     → x ≡ stepOf (tokenAt w at)
-    → Related (stateOf v) (pathAt w m) (record { rel = spare; spare = rel }) us ws
-    → Stepped v x landings at (record { rel = rel; spare = spare }) ws (entries stateLayout v) vs
-    → Related (stateOf v) (pathAt w (suc at)) (record { rel = rel; spare = spare }) us vs
-relate-on {w} {v} {landings} {at} {m} {x} {rel} {spare} {us} {ws} {vs} z h e ok q r o =
+    → Related (stateOf v) (pathAt w m) (record { rel = spare; spare = rel; blocks = k }) us ws
+    → Stepped v x landings at (record { rel = rel; spare = spare; blocks = k }) ws (entries stateLayout v) vs
+    → Related (stateOf v) (pathAt w (suc at)) (record { rel = rel; spare = spare; blocks = k }) us vs
+relate-on {w} {v} {landings} {at} {m} {x} {rel} {spare} {k} {us} {ws} {vs} z h e ok q r o =
     let s = step-here z h in
     let is : x ≡ along (s .back) (s .attribute) = q ∙ s .is in
     let d = step-related (s .back) (s .attribute) (subst (Followable v) is ok) (s .lands)
-    (subst (λ (i : ℕ). Related (stateOf v) (pathAt w i) (record { rel = spare; spare = rel }) us ws) e r)
-    (subst (λ (y : Step). Stepped v y landings at (record { rel = rel; spare = spare }) ws (entries stateLayout v) vs) is o)
+    (subst (λ (i : ℕ). Related (stateOf v) (pathAt w i) (record { rel = spare; spare = rel; blocks = k }) us ws) e r)
+    (subst (λ (y : Step). Stepped v y landings at (record { rel = rel; spare = spare; blocks = k }) ws (entries stateLayout v) vs) is o)
     in
-    subst (λ (p : Path). Related (stateOf v) p (record { rel = rel; spare = spare }) us vs) (sym (s .reads .0)) d
+    subst (λ (p : Path). Related (stateOf v) p (record { rel = rel; spare = spare; blocks = k }) us vs) (sym (s .reads .0)) d
 
 pub relate-starts : {w v landings : List ℕ} {at n : ℕ} {b : Bases} {ws vs : List ℕ} → Walk w v landings (suc at) → stepAt w at ≡ false
     → n ≡ objects v
-    → Diagonal (b .rel) n ws vs
+    → Diagonal n b ws vs
     → Related (stateOf v) (pathAt w (suc at)) b ws vs
 relate-starts {v = v} {b = b} {ws = ws} {vs = vs} z h q f =
     subst (λ (p : Path). Related (stateOf v) p b ws vs) (sym (walk-empty z h)) (empty-related {b = b} (q ∙ size-of v) f)

@@ -1,5 +1,5 @@
 -- What evaluation asks of its records.
-use Prim.Native.Nat.{ℕ, _*_, _^_, _≤_, _<_}
+use Prim.Native.Nat.{ℕ, _^_, _≤_, _<_}
 use mathlib.Core.Bool.{Bool, true, false, So}
 use mathlib.Core.List.{List}
 use mathlib.Core.Path.{_≡_}
@@ -14,7 +14,7 @@ use Rattle.records.specs.StateRecord.{objects}
 use Rattle.records.specs.ConceptRefusal.{refusal-3, refusal-4, refusal-5}
 use Rattle.records.specs.StateRefusal.{AcceptedState}
 use Rattle.index.specs.Index.{Indexes}
-use Rattle.evaluate.specs.Selection.{setWords}
+use Rattle.evaluate.specs.Blocks.{relationWords}
 
 -- a concept that is turned back for nothing but its count of steps, an accepted state, and the state's index
 pub record Evaluable (s : Signature) (concept state seen : List ℕ) : Type 0 where
@@ -40,7 +40,7 @@ commonAt w i = isCommon (tokenAt w i)
 
 -- rows of sets for three relations, where the concept asks for a common object
 pub record Relations (w v rows : List ℕ) : Type 0 where
-  pub room : So (any (entries conceptLayout w) (commonAt w)) → 3 * (objects v * setWords) ≤ length rows
+  pub room : So (any (entries conceptLayout w) (commonAt w)) → relationWords (objects v) ≤ length rows
   pub few : length rows < 2 ^ 32
 
 -- the numbers of objects for which rows are kept, below the most

@@ -20,6 +20,7 @@ use Rattle.evaluate.specs.declared.items.Found.{Found}
 use Rattle.evaluate.specs.Selection.{setWords, Selection}
 use Rattle.evaluate.specs.Evaluable.{Evaluable}
 use Rattle.evaluate.specs.Rows.{rowBit}
+use Rattle.evaluate.specs.Blocks.{relationWords}
 
 -- records of some signature that can be evaluated, a place e of the concept, and room for its landings and, where it asks for
 -- a common object, for three relations
@@ -28,7 +29,7 @@ pub record Place (w v seen landings rows : List ℕ) (e : ℕ) : Type 0 where
   pub evaluable : Evaluable signature w v seen
   pub within : e ≤ entries conceptLayout w
   pub room : length landings ≡ maxTokens * setWords
-  pub relations : (i : ℕ) → i < e → tokenAt w i ≡ Common → 3 * (objects v * setWords) ≤ length rows
+  pub relations : (i : ℕ) → i < e → tokenAt w i ≡ Common → relationWords (objects v) ≤ length rows
   pub few : length rows < 2 ^ 32
 
 -- row a of the landings has what the concept selects

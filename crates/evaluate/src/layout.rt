@@ -8,3 +8,8 @@ pub const SET_WORDS: usize = OBJECT_PART / WORD_BITS;
 
 // A set for each place of a token.
 pub const LANDING_WORDS: usize = MAX_TOKENS * SET_WORDS;
+
+// A row of a relation has a bit for each object that there is, in blocks: two words go at once.
+pub const BLOCK_WORDS: usize = 2;
+
+pub const BLOCK_BITS: usize = BLOCK_WORDS * WORD_BITS;

@@ -1,4 +1,6 @@
 // Which objects a concept selects in a state: document 01, "Meaning". The records must be accepted ones.
+use crate::layout::BLOCK_BITS;
+use crate::layout::BLOCK_WORDS;
 use crate::layout::LANDING_WORDS;
 use crate::layout::SET_WORDS;
 use index::left::TABLE_WORDS;
@@ -18,6 +20,7 @@ ghost use Rattle.records.specs.StateRecord.{stateOf, objects as objectsOf};
 ghost use Rattle.evaluate.specs.Evaluable.{isCommon, commonAt, Evaluable, Relations, fewObjects, someObjects};
 ghost use Rattle.evaluate.specs.Selection.{Selection};
 
+mod blocks;
 mod items;
 pub mod layout;
 mod meeting;
@@ -28,7 +31,11 @@ mod steps;
 
 const FEW: usize = 64;
 
+const FEW_BLOCKS: usize = (FEW + BLOCK_BITS - 1) / BLOCK_BITS;
+
 const SOME: usize = 192;
+
+const SOME_BLOCKS: usize = (SOME + BLOCK_BITS - 1) / BLOCK_BITS;
 
 fn is_common(token: Token) -> bool
     ensures { λ r. ⌜ r ≡ isCommon token ⌝ }
@@ -101,7 +108,7 @@ fn with_few(
     requires { ⌜ Evaluable s (now concept) (now state) (now seen) × (objectsOf (now state) ≤ fewObjects) ⌝ }
     ensures { λ r. ⌜ Selection (stateOf (now (state .entry))) (conceptOf (now (concept .entry))) r ⌝ }
 {
-    let mut rows = [0u64; 3 * FEW * SET_WORDS];
+    let mut rows = [0u64; 3 * FEW * FEW_BLOCKS * BLOCK_WORDS];
     evaluate_in(s, concept, state, seen, &mut rows)
 }
 
@@ -114,7 +121,7 @@ fn with_some(
     requires { ⌜ Evaluable s (now concept) (now state) (now seen) × (objectsOf (now state) ≤ someObjects) ⌝ }
     ensures { λ r. ⌜ Selection (stateOf (now (state .entry))) (conceptOf (now (concept .entry))) r ⌝ }
 {
-    let mut rows = [0u64; 3 * SOME * SET_WORDS];
+    let mut rows = [0u64; 3 * SOME * SOME_BLOCKS * BLOCK_WORDS];
     evaluate_in(s, concept, state, seen, &mut rows)
 }
 

@@ -1,5 +1,8 @@
 // The relation of a path: a row for each target that there is, the set of the origins that lead there. The rows of several
 // relations stand in one lent list, and a step goes from the rows of one to those of another.
+use crate::blocks::merge;
+use crate::layout::BLOCK_BITS;
+use crate::layout::BLOCK_WORDS;
 use crate::layout::SET_WORDS;
 use crate::sets::shared_row;
 use crate::steps::Ends;
@@ -13,70 +16,47 @@ use index::kinds::first_of_kind;
 use records::concept::is_step;
 use records::concept::token_at;
 use records::reading::start_of;
-use records::state::OBJECT_PART;
 use records::state::objects;
 ghost use Prim.Native.Nat.{_+_, _*_, _≤_, _<_, _^_};
 ghost use mathlib.Core.Path.{_≡_};
 ghost use lib.ListN.{length};
-ghost use Rattle.records.specs.Layout.{stateLayout, entries, objectPart};
+ghost use Rattle.records.specs.Layout.{stateLayout, entries};
 ghost use Rattle.records.specs.StateRecord.{stateOf, objects as objectsOf};
 ghost use Rattle.records.specs.Helpers.Reading.{pathAt};
 ghost use Rattle.evaluate.specs.Selection.{setWords};
 ghost use Rattle.evaluate.specs.Steps.{Followable, objectIn};
-ghost use Rattle.evaluate.specs.Rows.{Filled};
-ghost use Rattle.evaluate.specs.Relation.{noWord, Diagonal, Joined, Merged, Room, Followed, Stepped, Related};
+ghost use Rattle.evaluate.specs.Relation.{Room, Cleared, Diagonal, Followed, Stepped, Related};
 ghost use Rattle.evaluate.specs.Places.{Walk};
 
-// Where the rows of a relation begin, and those of a spare one.
+// Where the rows of a relation begin, and those of a spare one, counted in rows of so many blocks.
 pub struct Bases {
     pub rel: usize,
     pub spare: usize,
+    pub blocks: usize,
 }
 
-// `n` words from `base` on become 0.
-fn clear(rows: &mut [u64], base: usize, n: usize)
-    requires { ⌜ base + n ≤ length (now rows) ⌝ }
-    ensures { λ _. ⌜ Filled noWord base n (now (rows .entry)) (now (rows .exit)) ⌝ }
+// The relation's `n` rows become empty.
+fn clear(rows: &mut [u64], bases: Bases, n: usize)
+    requires { ⌜ Room n bases (now rows) ⌝ }
+    ensures { λ _. ⌜ Cleared n bases (now (rows .entry)) (now (rows .exit)) ⌝ }
 {
-    for i in 0..n {
-        let k = base + i;
+    let from = bases.rel * bases.blocks * BLOCK_WORDS;
+    let count = n * bases.blocks * BLOCK_WORDS;
+    for i in 0..count {
+        let k = from + i;
         rows[k] = 0;
     }
 }
 
-// Each object below `n` to itself, in the rows from `base` on.
-fn identity(rows: &mut [u64], base: usize, n: usize)
-    requires { ⌜ base * setWords + n * setWords ≤ length (now rows) ⌝ }
-    requires { ⌜ length (now rows) < 2 ^ 32 ⌝ }
-    requires { ⌜ n ≤ objectPart ⌝ }
-    ensures { λ _. ⌜ Diagonal base n (now (rows .entry)) (now (rows .exit)) ⌝ }
+// Each object below `n` to itself.
+fn identity(rows: &mut [u64], bases: Bases, n: usize)
+    requires { ⌜ Room n bases (now rows) ⌝ }
+    ensures { λ _. ⌜ Diagonal n bases (now (rows .entry)) (now (rows .exit)) ⌝ }
 {
-    clear(rows, base * SET_WORDS, n * SET_WORDS);
+    clear(rows, bases, n);
     for t in 0..n {
-        insert(rows, (base + t) * OBJECT_PART + t);
+        insert(rows, (bases.rel + t) * bases.blocks * BLOCK_BITS + t);
     }
-}
-
-// Puts the set into row `r`.
-fn join(rows: &mut [u64], r: usize, set: &[u64; SET_WORDS])
-    requires { ⌜ r * setWords + setWords ≤ length (now rows) ⌝ }
-    requires { ⌜ length (now set) ≡ setWords ⌝ }
-    ensures { λ _. ⌜ Joined (now (rows .entry)) r (now (set .entry)) (now (rows .exit)) ⌝ }
-{
-    for j in 0..SET_WORDS {
-        let i = r * SET_WORDS + j;
-        rows[i] = rows[i] | set[j];
-    }
-}
-
-// Puts row `s` into row `r`. It is read whole before it is written, so that the words go several at a time.
-fn merge(rows: &mut [u64], r: usize, s: usize)
-    requires { ⌜ r * setWords + setWords ≤ length (now rows) ⌝ }
-    requires { ⌜ s * setWords + setWords ≤ length (now rows) ⌝ }
-    ensures { λ _. ⌜ Merged (now (rows .entry)) r s (now (rows .exit)) ⌝ }
-{
-    let set = shared_row(rows, rows, s);
-    join(rows, r, &set);
 }
 
 // If the target of fact `i` is in the set, it gets the origins of the fact's origin.
@@ -98,7 +78,7 @@ fn follow(
     let target = object_in(state, ends.targets, i);
     if has(set, target) {
         let origin = object_in(state, ends.origins, i);
-        merge(rows, bases.rel + target, bases.spare + origin);
+        merge(rows, bases.rel + target, bases.spare + origin, bases.blocks);
     }
 }
 
@@ -110,7 +90,7 @@ fn advance(state: &[u16], step: Step, landings: &[u64], at: usize, rows: &mut [u
     requires { ⌜ Room (objectsOf (now state)) bases (now rows) ⌝ }
     ensures { λ _. ⌜ Stepped (now (state .entry)) step (now (landings .entry)) at bases (now (rows .entry)) (entries stateLayout (now (state .entry))) (now (rows .exit)) ⌝ }
 {
-    clear(rows, bases.rel * SET_WORDS, objects(state) * SET_WORDS);
+    clear(rows, bases, objects(state));
     let from = first_of_kind(state, step.kind);
     let to = first_of_kind(state, step.kind + 1);
     let ends = ends_of(state, step.backward);
@@ -138,10 +118,11 @@ pub fn relate(
         let before = Bases {
             rel: bases.spare,
             spare: bases.rel,
+            blocks: bases.blocks,
         };
         relate(words, state, landings, start_of(words, at), rows, before);
         advance(state, step_at(words, at), landings, at, rows, bases);
     } else {
-        identity(rows, bases.rel, objects(state));
+        identity(rows, bases, objects(state));
     }
 }

@@ -1,5 +1,6 @@
 -- An accepted state has no more objects than the largest (objects-room).
 use Rattle.evaluate.proofs.FactLaws.{objects-room}
+use Rattle.evaluate.proofs.RelationLaws.{relation-most}
 use native.Mathlib.Omega.{arith}
 use borrow.Author.Needs.{needs}
 use Rattle.evaluate.proofs.with_all.Statement.{statement}
@@ -9,7 +10,7 @@ slice-aggregate-evaluate-in : tie.Need-slice-aggregate-evaluate-in
 slice-aggregate-evaluate-in c = search needs
 
 evaluate-in-requires : tie.Need-evaluate-in-requires
-evaluate-in-requires c κs = let ok = c .before .before .before .pre in (ok, record { room = λ t. omega (arith, objects-room ok); few = omega arith })
+evaluate-in-requires c κs = let ok = c .before .before .before .pre in (ok, record { room = λ t. omega (arith, relation-most (objects-room ok)); few = omega arith })
 
 returns : tie.Need-returns
 returns c = search needs

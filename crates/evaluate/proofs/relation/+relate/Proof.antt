@@ -1,6 +1,6 @@
 -- The path before a step is shorter, so the place where it ends is the measure. The step takes its relation, in the spare
 -- rows, to that of the whole.
-use Rattle.evaluate.proofs.WalkLaws.{walk-few, walk-room, walk-suc, walk-followable, walk-before, relate-on, relate-starts, related-at}
+use Rattle.evaluate.proofs.WalkLaws.{walk-few, walk-suc, walk-followable, walk-before, relate-on, relate-starts, related-at}
 use Rattle.evaluate.proofs.RelationLaws.{room-same, room-turned}
 use Rattle.records.proofs.ReadingLaws.{path-some}
 use Rattle.records.proofs.PileLaws.{start-le}
@@ -67,7 +67,7 @@ relate-objects-requires : (t : ℕ) → relate-lts.Need-objects-requires (relate
 relate-objects-requires t c κs = search needs
 
 relate-identity-requires : (t : ℕ) → relate-lts.Need-identity-requires (relate-calls t) (relate-at t) relate.Post
-relate-identity-requires t c κs = (omega (arith, c .objects .ensures .value, c .before .before .before .before .before .before .before .before .before .pre .1 .1 .rel), (c .before .before .before .before .before .before .before .before .before .pre .1 .1 .few, omega (arith, c .objects .ensures .value, walk-room (c .before .before .before .before .before .before .before .before .before .pre .1 .0))))
+relate-identity-requires t c κs = rw (c .objects .ensures .value) (c .before .before .before .before .before .before .before .before .before .pre .1 .1)
 
 relate-same-length : (t : ℕ) → relate-lts.Need-same-length (relate-calls t) (relate-at t) relate.Post
 relate-same-length t c = search needs
@@ -77,7 +77,7 @@ relate-returns t c =
     let s = c .before .before .before .before .before .before .before .before .before .before .before .before .before .before .before .before .before in
     let h : So (stepAt (s .args .words .now) (s .args .end - 1)) = rw (← (c .before .before .before .before .before .before .before .before .before .before .before .before .token-at .ensures), ← (c .before .before .before .before .before .before .before .before .before .before .before .is-step .ensures)) (c .before .before .before .before .before .before .before .before .before .before .if1 .taken) in
     let z = s .pre .1 .0 in
-    related-at z (relate-on {rel = s .args .bases .rel} {spare = s .args .bases .spare} (walk-suc z) h (c .before .before .before .before .before .before .before .before .before .start-of .ensures) (walk-followable z (c .before .before .before .before .before .before .before .before .before .before .before .before .before .before .before .before .shared-slice-known .given) _ (c .before .before .before .before .step-at .ensures)) (c .before .before .before .before .step-at .ensures) (c .before .before .before .before .before .before .before .relate .ensures) (c .before .before .advance .ensures))
+    related-at z (relate-on {rel = s .args .bases .rel} {spare = s .args .bases .spare} {k = s .args .bases .blocks} (walk-suc z) h (c .before .before .before .before .before .before .before .before .before .start-of .ensures) (walk-followable z (c .before .before .before .before .before .before .before .before .before .before .before .before .before .before .before .before .shared-slice-known .given) _ (c .before .before .before .before .step-at .ensures)) (c .before .before .before .before .step-at .ensures) (c .before .before .before .before .before .before .before .relate .ensures) (c .before .before .advance .ensures))
 
 relate-same-length-2 : (t : ℕ) → relate-lts.Need-same-length-2 (relate-calls t) (relate-at t) relate.Post
 relate-same-length-2 t c = search needs

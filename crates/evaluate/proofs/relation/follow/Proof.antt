@@ -1,5 +1,5 @@
 -- A fact that carries a row, and one that lands outside the set.
-use Rattle.evaluate.proofs.RelationLaws.{followed-more, followed-outside}
+use Rattle.evaluate.proofs.RelationLaws.{room-row, room-few, followed-more, followed-outside}
 use mathlib.Core.Path.{sym, _∙_}
 use native.Mathlib.Omega.{arith}
 use borrow.Author.Needs.{needs}
@@ -16,13 +16,13 @@ object-in-requires-2 : tie.Need-object-in-requires-2
 object-in-requires-2 c κs = search needs
 
 add-merge : tie.Need-add-merge
-add-merge c = omega (arith, c .before .before .before .before .before .before .object-in .ensures, c .before .before .before .before .before .before .before .before .before .pre .1 .1 .0, c .before .before .before .before .before .before .before .before .before .pre .1 .1 .1 .1 .rel)
+add-merge c = omega (arith, room-few (c .before .before .before .before .before .before .before .before .before .args .bases) (c .before .before .before .before .before .before .before .before .before .pre .1 .1 .1 .1) (c .before .before .before .before .before .before .before .before .before .pre .1 .1 .0) .0, c .before .before .before .before .before .before .object-in .ensures)
 
 add-merge-2 : tie.Need-add-merge-2
-add-merge-2 c = omega (arith, c .before .before .before .object-in2 .ensures, c .before .before .before .before .before .before .before .before .before .before .pre .1 .1 .1 .0, c .before .before .before .before .before .before .before .before .before .before .pre .1 .1 .1 .1 .spare)
+add-merge-2 c = omega (arith, room-few (c .before .before .before .before .before .before .before .before .before .before .args .bases) (c .before .before .before .before .before .before .before .before .before .before .pre .1 .1 .1 .1) (c .before .before .before .before .before .before .before .before .before .before .pre .1 .1 .1 .0) .1, c .before .before .before .object-in2 .ensures)
 
 merge-requires : tie.Need-merge-requires
-merge-requires c κs = (omega (arith, c .before .before .before .before .before .before .before .object-in .ensures, c .before .before .before .before .before .before .before .before .before .before .pre .1 .1 .0, c .before .before .before .before .before .before .before .before .before .before .pre .1 .1 .1 .1 .rel), omega (arith, c .before .before .before .object-in2 .ensures, c .before .before .before .before .before .before .before .before .before .before .pre .1 .1 .1 .0, c .before .before .before .before .before .before .before .before .before .before .pre .1 .1 .1 .1 .spare))
+merge-requires c κs = (rw (c .before .before .before .before .before .before .before .object-in .ensures) (room-row (c .before .before .before .before .before .before .before .before .before .before .args .bases) (c .before .before .before .before .before .before .before .before .before .before .pre .1 .1 .1 .1) (c .before .before .before .before .before .before .before .before .before .before .pre .1 .1 .0) .0), (rw (c .before .before .before .object-in2 .ensures) (room-row (c .before .before .before .before .before .before .before .before .before .before .args .bases) (c .before .before .before .before .before .before .before .before .before .before .pre .1 .1 .1 .1) (c .before .before .before .before .before .before .before .before .before .before .pre .1 .1 .1 .0) .1), c .before .before .before .before .before .before .before .before .before .before .pre .1 .1 .1 .1 .few))
 
 same-length : tie.Need-same-length
 same-length c = search needs

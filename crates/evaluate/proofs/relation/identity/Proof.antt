@@ -1,22 +1,17 @@
 -- The objects passed lead to themselves, in rows that were cleared (Marking).
-use Rattle.evaluate.proofs.RelationLaws.{Marking, marking-none, marking-more, marking-all}
-use Prim.Native.Nat.{_≤_, _-_}
+use Rattle.evaluate.proofs.RelationLaws.{room-row, room-few, Marking, marking-none, marking-more, marking-all}
+use Rattle.evaluate.proofs.BlockLaws.{row-end}
+use Prim.Native.Nat.{_+_, _≤_, _-_}
 use native.Mathlib.Omega.{arith}
 use borrow.Author.Needs.{needs}
 use Rattle.evaluate.proofs.relation.identity.Statement.{statement}
 use Rattle.evaluate.proofs.relation.identity.Tie as tie
 
 abbrev Inv-loop : tie.InvT-loop
-Inv-loop rows₀ base n t₀ rows t = (t ≤ n) × Marking base n t rows₀ rows
+Inv-loop rows₀ bases n t₀ rows t = (t ≤ n) × Marking n bases t rows₀ rows
 
 abbrev μ-loop : tie.MeasureT-loop
-μ-loop rows₀ base n t₀ rows t = n - t
-
-mul-clear : tie.Need-mul-clear Inv-loop μ-loop
-mul-clear c = search needs
-
-mul-clear-2 : tie.Need-mul-clear-2 Inv-loop μ-loop
-mul-clear-2 c = search needs
+μ-loop rows₀ bases n t₀ rows t = n - t
 
 clear-requires : tie.Need-clear-requires Inv-loop μ-loop
 clear-requires c κs = search needs
@@ -25,16 +20,19 @@ loop-holds : tie.Need-loop-holds Inv-loop μ-loop
 loop-holds c = (omega arith, marking-none (c .before .before .clear .ensures))
 
 add-insert : tie.Need-add-insert Inv-loop μ-loop
-add-insert c = search needs
+add-insert c = omega (arith, room-few (c .before .before .before .before .before .before .before .before .before .args .bases) (c .before .before .before .before .before .before .before .before .before .pre) (c .before .before .loop-test .taken) .0)
 
 mul-insert : tie.Need-mul-insert Inv-loop μ-loop
-mul-insert c = omega (arith, c .before .before .before .before .before .before .before .before .pre .0, c .before .before .before .before .before .before .before .before .pre .1 .0)
+mul-insert c = omega (arith, row-end (c .before .before .before .before .before .before .before .before .before .before .args .bases .rel + c .before .before .before .before .loop .t) (c .before .before .before .before .before .before .before .before .before .before .args .bases .blocks) _ (room-row (c .before .before .before .before .before .before .before .before .before .before .args .bases) (c .before .before .before .before .before .before .before .before .before .before .pre) (c .before .before .before .loop-test .taken) .0), c .before .before .before .before .before .before .before .before .before .before .pre .few)
+
+mul-insert-2 : tie.Need-mul-insert-2 Inv-loop μ-loop
+mul-insert-2 c = omega (arith, row-end (c .before .before .before .before .before .before .before .before .before .before .args .bases .rel + c .before .before .before .before .loop .t) (c .before .before .before .before .before .before .before .before .before .before .args .bases .blocks) _ (room-row (c .before .before .before .before .before .before .before .before .before .before .args .bases) (c .before .before .before .before .before .before .before .before .before .before .pre) (c .before .before .before .loop-test .taken) .0), c .before .before .before .before .before .before .before .before .before .before .pre .few)
 
 add-insert-2 : tie.Need-add-insert-2 Inv-loop μ-loop
-add-insert-2 c = omega (arith, c .before .before .before .before .before .before .before .before .pre .0, c .before .before .before .before .before .before .before .before .pre .1 .0)
+add-insert-2 c = omega (arith, row-end (c .before .before .before .before .before .before .before .before .before .before .args .bases .rel + c .before .before .before .before .loop .t) (c .before .before .before .before .before .before .before .before .before .before .args .bases .blocks) _ (room-row (c .before .before .before .before .before .before .before .before .before .before .args .bases) (c .before .before .before .before .before .before .before .before .before .before .pre) (c .before .before .before .loop-test .taken) .0), c .before .before .before .before .before .before .before .before .before .before .pre .few, c .before .before .before .before .before .before .before .before .before .before .pre .wide, c .before .before .before .loop-test .taken)
 
 insert-requires : tie.Need-insert-requires Inv-loop μ-loop
-insert-requires c κs = omega (arith, c .before .before .before .before .before .before .before .before .pre .0, c .before .before .loop .inv .1 .size, c .before .before .before .before .before .clear .ensures .size, c .before .before .before .before .before .before .before .before .pre .1 .1)
+insert-requires c κs = omega (arith, row-end (c .before .before .before .before .before .before .before .before .before .before .args .bases .rel + c .before .before .before .before .loop .t) (c .before .before .before .before .before .before .before .before .before .before .args .bases .blocks) _ (room-row (c .before .before .before .before .before .before .before .before .before .before .args .bases) (c .before .before .before .before .before .before .before .before .before .before .pre) (c .before .before .before .loop-test .taken) .0), c .before .before .before .before .loop .inv .1 .size, c .before .before .before .before .before .before .before .clear .ensures .size, c .before .before .before .before .before .before .before .before .before .before .pre .wide, c .before .before .before .loop-test .taken)
 
 add-t : tie.Need-add-t Inv-loop μ-loop
 add-t c = search needs
@@ -43,7 +41,7 @@ loop-less : tie.Need-loop-less Inv-loop μ-loop
 loop-less c = search needs
 
 loop-again : tie.Need-loop-again Inv-loop μ-loop
-loop-again c = (omega arith, marking-more (c .before .before .before .before .before .loop .inv .1) (c .before .before .before .before .loop-test .taken) (c .before .before .before .before .before .before .before .before .before .before .before .pre .1 .1) (c .before .before .insert .ensures))
+loop-again c = (omega arith, marking-more (c .before .before .before .before .before .before .before .loop .inv .1) (c .before .before .before .before .before .before .loop-test .taken) (c .before .before .before .before .before .before .before .before .before .before .before .before .before .pre .wide) (c .before .before .insert .ensures))
 
 same-length : tie.Need-same-length Inv-loop μ-loop
 same-length c = search needs
@@ -57,12 +55,11 @@ identity-spec =
     (tie.spec
     Inv-loop
     μ-loop
-    mul-clear
-    mul-clear-2
     clear-requires
     loop-holds
     add-insert
     mul-insert
+    mul-insert-2
     add-insert-2
     insert-requires
     add-t
