@@ -11,11 +11,13 @@ use borrow.Author.Tests.{eq-eqb, ne-eqb, lt-ltb, le-ltb}
 use lib.Bits.{bitOr}
 use lib.Dec.{eqb, ltb}
 use lib.ListN.{length, getD, set}
+use Rattle.records.specs.Layout.{objectPart}
 use Rattle.index.specs.BitSet.{wordBits, bit, bitAt}
 use Rattle.index.proofs.BitLaws.{word-or}
-use Rattle.evaluate.specs.Rows.{Filled}
-use Rattle.evaluate.specs.Blocks.{blockWords, blockBits, blockBit, cell, BlockMerged, Merged}
-use Rattle.evaluate.proofs.RowLaws.{filled-none, filled-more}
+use Rattle.evaluate.specs.Selection.{setWords}
+use Rattle.evaluate.specs.Rows.{rowBit, Filled, SharedRow}
+use Rattle.evaluate.specs.Blocks.{blockWords, blockBits, setBlocks, blockBit, cell, BlockMerged, Joined, Merged}
+use Rattle.evaluate.proofs.RowLaws.{filled-none, filled-more, row-word, row-same}
 
 pub row-fits : (t n k : ℕ) → t < n → t * k + k ≤ n * k
 row-fits t n k l = omega (arith, mul-le-mul-right k l, suc-mul t k)
@@ -131,3 +133,38 @@ module _ {k : ℕ} {ws : List ℕ} {r s : ℕ} where
         size = z .size;
         bits = λ t o m. z .bits t o m ∙ rw (lt-ltb o (c * blockBits) (omega arith), and-true (eqb t r));
       }
+
+-- A row that is a whole set.
+
+pub whole-end : (r k n : ℕ) → k ≡ setBlocks → (r + 1) * k * blockWords ≤ n → r * setWords + setWords ≤ n
+whole-end r k n e h = omega (arith, row-end r k n h, e, ap (λ (x : ℕ). r * x) e)
+
+abbrev pub joinedWord : List ℕ → ℕ → List ℕ → ℕ → ℕ
+joinedWord ws r set i = bitOr (getD ws (r * setWords + i) 0) (getD set i 0)
+
+-- the word that a turn reads is still that of the beginning
+pub joining-word : {ws vs : List ℕ} (r : ℕ) (set : List ℕ) {j : ℕ} → Filled (joinedWord ws r set) (r * setWords) j ws vs → joinedWord vs r set j ≡ joinedWord ws r set j
+joining-word r set {j} z = ap (λ (x : ℕ). bitOr x (getD set j 0)) (z .kept (r * setWords + j) (λ i m q. omega arith))
+
+-- its bits, as those of a list of sets and as those of its words
+whole-row : (ws : List ℕ) (t o : ℕ) → cell setBlocks ws t o ≡ rowBit ws t o
+whole-row ws t o = ap (bitAt ws) (omega arith)
+
+pub joined-of : {ws vs : List ℕ} {r : ℕ} {set : List ℕ} → Filled (joinedWord ws r set) (r * setWords) setWords ws vs → Joined ws r set vs
+unfolding bitAt
+joined-of {ws} {vs} {r} {set} z = record { size = z .size; bits = λ t o l. pick t o l (ℕ-discrete t r) }
+  where
+    pick : (t o : ℕ) → o < objectPart → Dec (t ≡ r) → cell setBlocks vs t o ≡ (cell setBlocks ws t o || eqb t r && bitAt set o)
+    pick t o l (yes q) =
+        rw (whole-row vs t o, whole-row ws t o, eq-eqb t r q, q, row-word vs r o, row-word ws r o, z .done (o / wordBits) (omega arith))
+        (word-or _ _ (o % wordBits))
+    pick t o l (no n) =
+        rw (whole-row vs t o, whole-row ws t o, ne-eqb t r n, row-word vs t o, row-word ws t o, z .kept (t * setWords + o / wordBits) (λ i m q. n (omega arith)))
+        (sym (or-false _))
+
+pub merged-by : {ws vs set : List ℕ} {r s : ℕ} → SharedRow ws ws s set → Joined ws r set vs → Merged setBlocks ws r s vs
+merged-by {ws} {vs} {set} {r} {s} h z =
+    record {
+      size = z .size;
+      bits = λ t o l. z .bits t o l ∙ ap (λ (b : Bool). cell setBlocks ws t o || eqb t r && b) (row-same ws s h .bits o l ∙ sym (whole-row ws s o));
+    }

@@ -44,7 +44,7 @@ module _ {w v seen ls rs : List ℕ} {e : ℕ} (z : Place w v seen ls rs e) wher
         signature = z .signature;
         evaluable = z .evaluable;
         within = omega (arith, z .within);
-        room = q ∙ z .room;
+        room = rw q (z .room);
         relations = λ i k t. rw r (z .relations i (omega arith) t);
         few = rw r (z .few);
       }
@@ -65,7 +65,7 @@ module _ {w v seen ls rs : List ℕ} {e : ℕ} (z : Place w v seen ls rs e) wher
         evaluable = z .evaluable;
         within = omega (arith, z .within);
         path = path;
-        room = q ∙ z .room;
+        room = rw q (z .room);
         landed = landed;
       }
 
@@ -201,7 +201,7 @@ module _ {w v seen ls rs : List ℕ} {end : ℕ} (z : Place w v seen ls rs end) 
     path-put {ms} {ns} {ss} {ts} {b} y = subst (λ (e : ℕ). PathAt w v e ms ns ss ts b) (sym (path-next w end h)) y
 
 module _ {s : Signature} {w v seen : List ℕ} (ok : Evaluable s w v seen) {n : ℕ} (last : n ≡ entries conceptLayout w) where
-  pub place-last : {ls rs : List ℕ} → length ls ≡ maxTokens * setWords → Relations w v rs → Place w v seen ls rs n
+  pub place-last : {ls rs : List ℕ} → entries conceptLayout w * setWords ≤ length ls → Relations w v rs → Place w v seen ls rs n
   place-last q r =
       record {
         signature = s;

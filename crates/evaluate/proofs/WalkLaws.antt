@@ -1,10 +1,10 @@
 -- A path whose landings are known, walked step by step: what its last token says, and what is left before it.
-use Prim.Native.Nat.{ℕ, suc, _-_, _^_, _≤_, _<_}
+use Prim.Native.Nat.{ℕ, suc, _+_, _-_, _*_, _^_, _≤_, _<_}
 use mathlib.Core.Bool.{Bool, true, false, So, true≢false}
 use mathlib.Core.List.{List}
 use mathlib.Core.Path.{_≡_, refl, sym, subst, _∙_}
 use native.Mathlib.Omega.{arith}
-use lib.ListN.{getD}
+use lib.ListN.{length, getD}
 use mir.Syntax.{w16}
 use mir.Val.{Fits}
 use Rattle.records.specs.declared.concept.Token.{Token}
@@ -23,7 +23,7 @@ use Rattle.evaluate.specs.declared.steps.Step.{Step}
 use Rattle.evaluate.specs.Rows.{Below}
 use Rattle.evaluate.specs.Steps.{along, stepOf, Followable, Origins}
 use Rattle.evaluate.specs.Places.{Landing, Walk}
-use Rattle.evaluate.specs.Selection.{Selection}
+use Rattle.evaluate.specs.Selection.{setWords, Selection}
 use Rattle.evaluate.specs.Relation.{Diagonal, Stepped, Related}
 use Rattle.evaluate.specs.declared.relation.Bases.{Bases}
 use Rattle.evaluate.proofs.FactLaws.{objects-room, end-inside}
@@ -73,6 +73,10 @@ module _ {w v landings : List ℕ} {e : ℕ} (z : Walk w v landings e) where
   pub walk-room : objects v ≤ maxObjects
   walk-room = objects-room (z .evaluable)
 
+  -- the row of the last token
+  pub walk-last : 1 ≤ e → (e - 1) * setWords + setWords ≤ length landings
+  walk-last l = omega (arith, z .within, z .room)
+
   pub walk-suc : Walk w v landings (suc (e - 1))
   walk-suc = subst (Walk w v landings) (path-next w e (z .path)) z
 
@@ -87,6 +91,9 @@ module _ {w v landings : List ℕ} {e : ℕ} (z : Walk w v landings e) where
       }
 
 module _ {w v landings : List ℕ} {at : ℕ} (z : Walk w v landings (suc at)) where
+  pub walk-landing : at * setWords + setWords ≤ length landings
+  walk-landing = omega (arith, z .within, z .room)
+
   -- the last token is no step, and so the path is empty
   pub walk-empty : stepAt w at ≡ false → pathAt w (suc at) ≡ empty
   walk-empty h = empty-reads w at (z .path) h .0

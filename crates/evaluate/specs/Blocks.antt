@@ -5,13 +5,19 @@ use mathlib.Core.List.{List}
 use mathlib.Core.Path.{_≡_}
 use lib.Dec.{eqb}
 use lib.ListN.{length}
+use Rattle.records.specs.Layout.{objectPart}
 use Rattle.index.specs.BitSet.{wordBits, bitAt}
+use Rattle.evaluate.specs.Selection.{setWords}
 
 abbrev pub blockWords : ℕ
 blockWords = 2
 
 abbrev pub blockBits : ℕ
 blockBits = blockWords * wordBits
+
+-- the blocks of a row that is a whole set
+abbrev pub setBlocks : ℕ
+setBlocks = setWords / blockWords
 
 -- the blocks of a row with a bit for each object below n
 abbrev pub blocksFor : ℕ → ℕ
@@ -33,6 +39,11 @@ cell k ws t o = blockBit ws (t * k) o
 pub record BlockMerged (ws : List ℕ) (p q : ℕ) (vs : List ℕ) : Type 0 where
   pub size : length vs ≡ length ws
   pub bits : (m o : ℕ) → o < blockBits → blockBit vs m o ≡ (blockBit ws m o || eqb m p && blockBit ws q o)
+
+-- vs is ws with the set put into row r
+pub record Joined (ws : List ℕ) (r : ℕ) (set vs : List ℕ) : Type 0 where
+  pub size : length vs ≡ length ws
+  pub bits : (t o : ℕ) → o < objectPart → cell setBlocks vs t o ≡ (cell setBlocks ws t o || eqb t r && bitAt set o)
 
 -- vs is ws with row s put into row r
 pub record Merged (k : ℕ) (ws : List ℕ) (r s : ℕ) (vs : List ℕ) : Type 0 where

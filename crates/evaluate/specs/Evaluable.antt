@@ -43,6 +43,10 @@ pub record Relations (w v rows : List ℕ) : Type 0 where
   pub room : So (any (entries conceptLayout w) (commonAt w)) → relationWords (objects v) ≤ length rows
   pub few : length rows < 2 ^ 32
 
+-- the number of tokens for which landings are kept, below the most
+abbrev pub fewTokens : ℕ
+fewTokens = 16
+
 -- the numbers of objects for which rows are kept, below the most
 abbrev pub fewObjects : ℕ
 fewObjects = 64

@@ -11,7 +11,7 @@ use Rattle.records.specs.declared.concept.Token.the-variants.{Common}
 use Rattle.records.specs.declared.schema.Signature.{Signature}
 use Rattle.records.specs.Concept.{Concept}
 use Rattle.records.specs.Executable.{isIn}
-use Rattle.records.specs.Layout.{conceptLayout, entries, objectPart, maxTokens}
+use Rattle.records.specs.Layout.{conceptLayout, entries, objectPart}
 use Rattle.records.specs.StateRecord.{objects, stateOf}
 use Rattle.records.specs.ConceptRecord.{tokenAt}
 use Rattle.records.specs.ConceptRefusal.{stepAt}
@@ -28,7 +28,7 @@ pub record Place (w v seen landings rows : List ℕ) (e : ℕ) : Type 0 where
   pub signature : Signature
   pub evaluable : Evaluable signature w v seen
   pub within : e ≤ entries conceptLayout w
-  pub room : length landings ≡ maxTokens * setWords
+  pub room : entries conceptLayout w * setWords ≤ length landings
   pub relations : (i : ℕ) → i < e → tokenAt w i ≡ Common → relationWords (objects v) ≤ length rows
   pub few : length rows < 2 ^ 32
 
@@ -66,5 +66,5 @@ pub record Walk (w v landings : List ℕ) (e : ℕ) : Type 0 where
   pub evaluable : Evaluable signature w v seen
   pub within : e ≤ entries conceptLayout w
   pub path : HasPath w e
-  pub room : length landings ≡ maxTokens * setWords
+  pub room : entries conceptLayout w * setWords ≤ length landings
   pub landed : Landed w v landings (startOf w e 1) e

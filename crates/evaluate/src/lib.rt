@@ -1,9 +1,9 @@
 // Which objects a concept selects in a state: document 01, "Meaning". The records must be accepted ones.
 use crate::layout::BLOCK_BITS;
 use crate::layout::BLOCK_WORDS;
-use crate::layout::LANDING_WORDS;
 use crate::layout::SET_WORDS;
 use index::left::TABLE_WORDS;
+use records::concept::MAX_TOKENS;
 use records::concept::Token;
 use records::concept::token_at;
 use records::concept::tokens;
@@ -12,13 +12,14 @@ use records::state::MAX_OBJECTS;
 use records::state::objects;
 ghost use mathlib.Core.Path.{_≡_};
 ghost use mathlib.Core.Bool.{false};
-ghost use Prim.Native.Nat.{_≤_};
+ghost use Prim.Native.Nat.{_*_, _≤_};
+ghost use lib.ListN.{length};
 ghost use Rattle.records.specs.Finite.{any};
 ghost use Rattle.records.specs.Layout.{conceptLayout, entries};
 ghost use Rattle.records.specs.ConceptRecord.{conceptOf};
 ghost use Rattle.records.specs.StateRecord.{stateOf, objects as objectsOf};
-ghost use Rattle.evaluate.specs.Evaluable.{isCommon, commonAt, Evaluable, Relations, fewObjects, someObjects};
-ghost use Rattle.evaluate.specs.Selection.{Selection};
+ghost use Rattle.evaluate.specs.Evaluable.{isCommon, commonAt, Evaluable, Relations, fewTokens, fewObjects, someObjects};
+ghost use Rattle.evaluate.specs.Selection.{setWords, Selection};
 
 mod blocks;
 mod items;
@@ -28,6 +29,8 @@ mod reaching;
 mod relation;
 mod sets;
 mod steps;
+
+const FEW_TOKENS: usize = 16;
 
 const FEW: usize = 64;
 
@@ -66,20 +69,21 @@ fn has_common(words: &[u16]) -> bool
     found
 }
 
-// With lent words for three relations, where the concept asks for a common object.
+// With lent words for what each token lands on and, where the concept asks for a common object, for three relations.
 fn evaluate_in(
     s: Signature,
     concept: &[u16],
     state: &[u16],
     seen: &[u64; TABLE_WORDS],
+    landings: &mut [u64],
     rows: &mut [u64],
 ) -> [u64; SET_WORDS]
     requires { ⌜ Evaluable s (now concept) (now state) (now seen) ⌝ }
+    requires { ⌜ entries conceptLayout (now concept) * setWords ≤ length (now landings) ⌝ }
     requires { ⌜ Relations (now concept) (now state) (now rows) ⌝ }
     ensures { λ r. ⌜ Selection (stateOf (now (state .entry))) (conceptOf (now (concept .entry))) r ⌝ }
 {
-    let mut landings = [0u64; LANDING_WORDS];
-    let found = items::concept(concept, state, seen, tokens(concept), &mut landings, rows);
+    let found = items::concept(concept, state, seen, tokens(concept), landings, rows);
     found.set
 }
 
@@ -89,13 +93,15 @@ fn without_rows(
     concept: &[u16],
     state: &[u16],
     seen: &[u64; TABLE_WORDS],
+    landings: &mut [u64],
 ) -> [u64; SET_WORDS]
     requires { ⌜ Evaluable s (now concept) (now state) (now seen) ⌝ }
+    requires { ⌜ entries conceptLayout (now concept) * setWords ≤ length (now landings) ⌝ }
     requires { ⌜ any (entries conceptLayout (now concept)) (commonAt (now concept)) ≡ false ⌝ }
     ensures { λ r. ⌜ Selection (stateOf (now (state .entry))) (conceptOf (now (concept .entry))) r ⌝ }
 {
     let mut none = [0u64; 1];
-    evaluate_in(s, concept, state, seen, &mut none)
+    evaluate_in(s, concept, state, seen, landings, &mut none)
 }
 
 // Rows by how many objects there are. A function for each size, so that no call has a frame for more than one of them.
@@ -104,12 +110,14 @@ fn with_few(
     concept: &[u16],
     state: &[u16],
     seen: &[u64; TABLE_WORDS],
+    landings: &mut [u64],
 ) -> [u64; SET_WORDS]
     requires { ⌜ Evaluable s (now concept) (now state) (now seen) × (objectsOf (now state) ≤ fewObjects) ⌝ }
+    requires { ⌜ entries conceptLayout (now concept) * setWords ≤ length (now landings) ⌝ }
     ensures { λ r. ⌜ Selection (stateOf (now (state .entry))) (conceptOf (now (concept .entry))) r ⌝ }
 {
     let mut rows = [0u64; 3 * FEW * FEW_BLOCKS * BLOCK_WORDS];
-    evaluate_in(s, concept, state, seen, &mut rows)
+    evaluate_in(s, concept, state, seen, landings, &mut rows)
 }
 
 fn with_some(
@@ -117,15 +125,71 @@ fn with_some(
     concept: &[u16],
     state: &[u16],
     seen: &[u64; TABLE_WORDS],
+    landings: &mut [u64],
 ) -> [u64; SET_WORDS]
     requires { ⌜ Evaluable s (now concept) (now state) (now seen) × (objectsOf (now state) ≤ someObjects) ⌝ }
+    requires { ⌜ entries conceptLayout (now concept) * setWords ≤ length (now landings) ⌝ }
     ensures { λ r. ⌜ Selection (stateOf (now (state .entry))) (conceptOf (now (concept .entry))) r ⌝ }
 {
     let mut rows = [0u64; 3 * SOME * SOME_BLOCKS * BLOCK_WORDS];
-    evaluate_in(s, concept, state, seen, &mut rows)
+    evaluate_in(s, concept, state, seen, landings, &mut rows)
 }
 
 fn with_all(
+    s: Signature,
+    concept: &[u16],
+    state: &[u16],
+    seen: &[u64; TABLE_WORDS],
+    landings: &mut [u64],
+) -> [u64; SET_WORDS]
+    requires { ⌜ Evaluable s (now concept) (now state) (now seen) ⌝ }
+    requires { ⌜ entries conceptLayout (now concept) * setWords ≤ length (now landings) ⌝ }
+    ensures { λ r. ⌜ Selection (stateOf (now (state .entry))) (conceptOf (now (concept .entry))) r ⌝ }
+{
+    let mut rows = [0u64; 3 * MAX_OBJECTS * SET_WORDS];
+    evaluate_in(s, concept, state, seen, landings, &mut rows)
+}
+
+// The choice of rows.
+fn with_landings(
+    s: Signature,
+    concept: &[u16],
+    state: &[u16],
+    seen: &[u64; TABLE_WORDS],
+    landings: &mut [u64],
+) -> [u64; SET_WORDS]
+    requires { ⌜ Evaluable s (now concept) (now state) (now seen) ⌝ }
+    requires { ⌜ entries conceptLayout (now concept) * setWords ≤ length (now landings) ⌝ }
+    ensures { λ r. ⌜ Selection (stateOf (now (state .entry))) (conceptOf (now (concept .entry))) r ⌝ }
+{
+    let n = objects(state);
+    if !has_common(concept) {
+        return without_rows(s, concept, state, seen, landings);
+    }
+    if n <= FEW {
+        return with_few(s, concept, state, seen, landings);
+    }
+    if n <= SOME {
+        return with_some(s, concept, state, seen, landings);
+    }
+    with_all(s, concept, state, seen, landings)
+}
+
+// Landings by how many tokens there are.
+fn few_tokens(
+    s: Signature,
+    concept: &[u16],
+    state: &[u16],
+    seen: &[u64; TABLE_WORDS],
+) -> [u64; SET_WORDS]
+    requires { ⌜ Evaluable s (now concept) (now state) (now seen) × (entries conceptLayout (now concept) ≤ fewTokens) ⌝ }
+    ensures { λ r. ⌜ Selection (stateOf (now (state .entry))) (conceptOf (now (concept .entry))) r ⌝ }
+{
+    let mut landings = [0u64; FEW_TOKENS * SET_WORDS];
+    with_landings(s, concept, state, seen, &mut landings)
+}
+
+fn all_tokens(
     s: Signature,
     concept: &[u16],
     state: &[u16],
@@ -134,8 +198,8 @@ fn with_all(
     requires { ⌜ Evaluable s (now concept) (now state) (now seen) ⌝ }
     ensures { λ r. ⌜ Selection (stateOf (now (state .entry))) (conceptOf (now (concept .entry))) r ⌝ }
 {
-    let mut rows = [0u64; 3 * MAX_OBJECTS * SET_WORDS];
-    evaluate_in(s, concept, state, seen, &mut rows)
+    let mut landings = [0u64; MAX_TOKENS * SET_WORDS];
+    with_landings(s, concept, state, seen, &mut landings)
 }
 
 pub fn evaluate(
@@ -147,15 +211,9 @@ pub fn evaluate(
     requires { ⌜ Evaluable s (now concept) (now state) (now seen) ⌝ }
     ensures { λ r. ⌜ Selection (stateOf (now (state .entry))) (conceptOf (now (concept .entry))) r ⌝ }
 {
-    let n = objects(state);
-    if !has_common(concept) {
-        return without_rows(s, concept, state, seen);
+    if tokens(concept) <= FEW_TOKENS {
+        few_tokens(s, concept, state, seen)
+    } else {
+        all_tokens(s, concept, state, seen)
     }
-    if n <= FEW {
-        return with_few(s, concept, state, seen);
-    }
-    if n <= SOME {
-        return with_some(s, concept, state, seen);
-    }
-    with_all(s, concept, state, seen)
 }

@@ -1,64 +1,37 @@
--- The blocks passed are put in (Merging).
-use Rattle.evaluate.proofs.BlockLaws.{row-end, Merging, merging-none, merging-more, merging-all}
-use Prim.Native.Nat.{_-_, _≤_}
+-- The two ways, by the number of blocks.
+use Rattle.evaluate.proofs.BlockLaws.{whole-end}
 use native.Mathlib.Omega.{arith}
 use borrow.Author.Needs.{needs}
 use Rattle.evaluate.proofs.blocks.merge.Statement.{statement}
 use Rattle.evaluate.proofs.blocks.merge.Tie as tie
 
-abbrev Inv-loop : tie.InvT-loop
-Inv-loop rows₀ r s blocks to from c₀ rows c = (c ≤ blocks) × Merging blocks rows₀ r s c rows
+merge-whole-requires : tie.Need-merge-whole-requires
+merge-whole-requires c κs =
+    let (r, s) = c .before .before .before .pre in
+    (whole-end (c .before .before .before .args .r) _ _ (c .before .if1 .taken) r, whole-end (c .before .before .before .args .s) _ _ (c .before .if1 .taken) (s .0))
 
-abbrev μ-loop : tie.MeasureT-loop
-μ-loop rows₀ r s blocks to from c₀ rows c = blocks - c
+merge-blocks-requires : tie.Need-merge-blocks-requires
+merge-blocks-requires c κs = search needs
 
-mul-to : tie.Need-mul-to Inv-loop μ-loop
-mul-to c = omega (arith, row-end (c .before .args .r) (c .before .args .blocks) _ (c .before .pre .0), c .before .pre .1 .1)
-
-mul-from : tie.Need-mul-from Inv-loop μ-loop
-mul-from c = omega (arith, row-end (c .before .args .s) (c .before .args .blocks) _ (c .before .pre .1 .0), c .before .pre .1 .1)
-
-loop-holds : tie.Need-loop-holds Inv-loop μ-loop
-loop-holds c = (omega arith, merging-none)
-
-add-merge-block : tie.Need-add-merge-block Inv-loop μ-loop
-add-merge-block c = omega (arith, c .before .loop-test .taken, row-end (c .before .before .before .before .args .r) (c .before .before .before .before .args .blocks) _ (c .before .before .before .before .pre .0), c .before .before .before .before .pre .1 .1)
-
-add-merge-block-2 : tie.Need-add-merge-block-2 Inv-loop μ-loop
-add-merge-block-2 c = omega (arith, c .before .loop-test .taken, row-end (c .before .before .before .before .args .s) (c .before .before .before .before .args .blocks) _ (c .before .before .before .before .pre .1 .0), c .before .before .before .before .pre .1 .1)
-
-merge-block-requires : tie.Need-merge-block-requires Inv-loop μ-loop
-merge-block-requires c κs = (omega (arith, c .before .loop-test .taken, c .before .before .loop .inv .1 .size, row-end (c .before .before .before .before .args .r) (c .before .before .before .before .args .blocks) _ (c .before .before .before .before .pre .0)), omega (arith, c .before .loop-test .taken, c .before .before .loop .inv .1 .size, row-end (c .before .before .before .before .args .s) (c .before .before .before .before .args .blocks) _ (c .before .before .before .before .pre .1 .0)))
-
-add-c : tie.Need-add-c Inv-loop μ-loop
-add-c c = search needs
-
-loop-less : tie.Need-loop-less Inv-loop μ-loop
-loop-less c = search needs
-
-loop-again : tie.Need-loop-again Inv-loop μ-loop
-loop-again c = (omega arith, merging-more (c .before .before .before .before .before .loop .inv .1) (c .before .before .before .before .loop-test .taken) (c .before .before .merge-block .ensures))
-
-same-length : tie.Need-same-length Inv-loop μ-loop
+same-length : tie.Need-same-length
 same-length c = search needs
 
-returns : tie.Need-returns Inv-loop μ-loop
-returns c = merging-all (c .before .loop .inv .1) (c .loop-test .left)
+returns : tie.Need-returns
+returns c = rw (c .before .before .before .before .if1 .taken) (c .before .before .merge-whole .ensures)
+
+same-length-2 : tie.Need-same-length-2
+same-length-2 c = search needs
+
+returns-2 : tie.Need-returns-2
+returns-2 c = search needs
 
 pub merge-spec : {M : Type 1} → statement M
 merge-spec =
     tie.close
     (tie.spec
-    Inv-loop
-    μ-loop
-    mul-to
-    mul-from
-    loop-holds
-    add-merge-block
-    add-merge-block-2
-    merge-block-requires
-    add-c
-    loop-less
-    loop-again
+    merge-whole-requires
+    merge-blocks-requires
     same-length
-    returns)
+    returns
+    same-length-2
+    returns-2)

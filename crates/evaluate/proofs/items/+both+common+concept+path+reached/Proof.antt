@@ -296,7 +296,7 @@ path-concept-requires t c κs =
     (omega (arith, s .pre .0, path-next (s .args .words .now) _ (s .pre .1 .1)), (place-earlier p refl refl (omega arith), step-read p (path-suc (s .args .words .now) _ (s .pre .1 .1)) h .1))
 
 path-put-requires : (t : ℕ) → path-lts.Need-put-requires (path-calls t) (path-at t) path.Post
-path-put-requires t c κs = (omega (arith, c .before .before .before .before .before .before .before .concept .ensures .landings .size, c .before .before .before .before .before .before .before .before .before .before .before .before .before .before .before .before .before .pre .1 .0 .room, place-few (c .before .before .before .before .before .before .before .before .before .before .before .before .before .before .before .before .before .pre .1 .0), path-next (c .before .before .before .before .before .before .before .before .before .before .before .before .before .before .before .before .before .args .words .now) _ (c .before .before .before .before .before .before .before .before .before .before .before .before .before .before .before .before .before .pre .1 .1)), c .before .before .before .before .before .before .before .concept .ensures .selection .size)
+path-put-requires t c κs = (omega (arith, c .before .before .before .before .before .before .before .concept .ensures .landings .size, c .before .before .before .before .before .before .before .before .before .before .before .before .before .before .before .before .before .pre .1 .0 .room, c .before .before .before .before .before .before .before .before .before .before .before .before .before .before .before .before .before .pre .1 .0 .within, path-next (c .before .before .before .before .before .before .before .before .before .before .before .before .before .before .before .before .before .args .words .now) _ (c .before .before .before .before .before .before .before .before .before .before .before .before .before .before .before .before .before .pre .1 .1)), c .before .before .before .before .before .before .before .concept .ensures .selection .size)
 
 path-path-requires : (t : ℕ) → path-lts.Need-path-requires (path-calls t) (path-at t) path.Post
 path-path-requires t c κs =

@@ -2,7 +2,7 @@
 -- at each turn, and in the end it is empty.
 use Rattle.records.specs.ConceptRefusal.{stepAt}
 use mathlib.Core.Bool.{So}
-use Rattle.evaluate.proofs.WalkLaws.{walk-few, walk-room, walk-suc, walk-followable, walk-before, reach-starts, reach-on, reach-ends}
+use Rattle.evaluate.proofs.WalkLaws.{walk-few, walk-landing, walk-room, walk-suc, walk-followable, walk-before, reach-starts, reach-on, reach-ends}
 use Rattle.evaluate.proofs.ReachLaws.{Reaching}
 use Rattle.evaluate.specs.Places.{Walk}
 use Rattle.records.proofs.ReadingLaws.{path-some}
@@ -43,7 +43,7 @@ step-at-requires : tie.Need-step-at-requires Inv-loop μ-loop
 step-at-requires c κs = omega (arith, walk-few (c .before .before .before .loop .inv .0))
 
 origins-requires : tie.Need-origins-requires Inv-loop μ-loop
-origins-requires c κs = (walk-followable (c .before .before .before .before .before .loop .inv .0) (c .before .before .before .before .before .before .before .before .before .before .shared-slice-known .given) _ (c .before .step-at .ensures), (omega (arith, walk-few (c .before .before .before .before .before .loop .inv .0), c .before .before .before .before .before .loop .inv .0 .room), c .before .before .before .before .before .loop .inv .1 .size))
+origins-requires c κs = (walk-followable (c .before .before .before .before .before .loop .inv .0) (c .before .before .before .before .before .before .before .before .before .before .shared-slice-known .given) _ (c .before .step-at .ensures), (walk-landing (c .before .before .before .before .before .loop .inv .0), c .before .before .before .before .before .loop .inv .1 .size))
 
 start-of-requires : tie.Need-start-of-requires Inv-loop μ-loop
 start-of-requires c κs = omega (arith, walk-few (c .before .before .before .before .before .before .loop .inv .0))

@@ -1,6 +1,6 @@
 -- The path before a step is shorter, so the place where it ends is the measure. The step takes its relation, in the spare
 -- rows, to that of the whole.
-use Rattle.evaluate.proofs.WalkLaws.{walk-few, walk-suc, walk-followable, walk-before, relate-on, relate-starts, related-at}
+use Rattle.evaluate.proofs.WalkLaws.{walk-few, walk-last, walk-suc, walk-followable, walk-before, relate-on, relate-starts, related-at}
 use Rattle.evaluate.proofs.RelationLaws.{room-same, room-turned}
 use Rattle.records.proofs.ReadingLaws.{path-some}
 use Rattle.records.proofs.PileLaws.{start-le}
@@ -61,7 +61,7 @@ relate-step-at-requires t c κs = omega (arith, walk-few (c .before .before .bef
 relate-advance-requires : (t : ℕ) → relate-lts.Need-advance-requires (relate-calls t) (relate-at t) relate.Post
 relate-advance-requires t c κs =
     let s = c .before .before .before .before .before .before .before .before .before .before .before .before .before .before in
-    (walk-followable (s .pre .1 .0) (c .before .before .before .before .before .before .before .before .before .before .before .before .before .shared-slice-known .given) _ (c .before .step-at .ensures), (omega (arith, walk-few (s .pre .1 .0), path-some _ _ (s .pre .1 .0 .path)), room-same (s .pre .1 .1) (c .before .before .before .before .relate .ensures .size)))
+    (walk-followable (s .pre .1 .0) (c .before .before .before .before .before .before .before .before .before .before .before .before .before .shared-slice-known .given) _ (c .before .step-at .ensures), (walk-last (s .pre .1 .0) (path-some _ _ (s .pre .1 .0 .path)), room-same (s .pre .1 .1) (c .before .before .before .before .relate .ensures .size)))
 
 relate-objects-requires : (t : ℕ) → relate-lts.Need-objects-requires (relate-calls t) (relate-at t) relate.Post
 relate-objects-requires t c κs = search needs
