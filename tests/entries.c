@@ -357,6 +357,52 @@ static bikuvoa_state largest_state(void)
     return largest;
 }
 
+/* A ring of n objects along attribute 0, in which the last is also a value of its own. */
+static Record ring(size_t n)
+{
+    static uint16_t words[BIKUVOA_STATE_WORDS(BIKUVOA_MAX_OBJECTS + 1)];
+    bikuvoa_state state = bikuvoa_start_state(words, sizeof words / sizeof *words, n);
+    for (size_t d = 0; d < n; d++) bikuvoa_pair(&state, 0, d, (d + 1) % n);
+    bikuvoa_pair(&state, 0, n - 1, n - 1);
+    return (Record){state.length, state.words};
+}
+
+/* The concept after as many pairs of tokens that select everything. */
+static Record padded(Tokens tokens, size_t pairs)
+{
+    static uint16_t words[BIKUVOA_CONCEPT_WORDS(BIKUVOA_MAX_TOKENS)];
+    bikuvoa_concept c = bikuvoa_start_concept(words, sizeof words / sizeof *words);
+    for (size_t i = 0; i < pairs; i++) bikuvoa_token(&c, BIKUVOA_EVERYTHING, 0);
+    for (size_t i = 0; i < tokens.n; i++) bikuvoa_token(&c, tokens.at[i].sort, tokens.at[i].argument);
+    for (size_t i = 0; i < pairs; i++) bikuvoa_token(&c, BIKUVOA_BOTH, 0);
+    return (Record){c.length, c.words};
+}
+
+/* Common objects at each side of the sizes that evaluation has room for: objects that are their own value (the last), and that
+ * have a value of a value as a value (the last two), in concepts of up to 61 tokens. */
+static void sizes(void)
+{
+    static const size_t OBJECTS[] = {4, 63, 64, 65, 127, 128, 129, 191, 192, 193, 256, 257, 383, 384, 385, 479, 480};
+    static uint16_t marks[BIKUVOA_MAX_OBJECTS];
+    uint16_t words[BIKUVOA_SCHEMA_WORDS(0)];
+    bikuvoa_schema one = bikuvoa_start_schema(words, BIKUVOA_SCHEMA_WORDS(0), 0, 1, 0);
+    Record schema = {one.length, one.words};
+    Tokens own = TOKENS(EMPTY, EVERYTHING, FORWARD(0), EMPTY, COMMON);
+    Tokens onward = TOKENS(EMPTY, EVERYTHING, FORWARD(0), EVERYTHING, FORWARD(0), EMPTY, EVERYTHING, FORWARD(0), COMMON);
+    for (size_t i = 0; i < sizeof OBJECTS / sizeof *OBJECTS; i++) {
+        size_t n = OBJECTS[i];
+        Record state = ring(n);
+        for (size_t pairs = 0; pairs <= 26; pairs++) {
+            uint64_t out = 99;
+            int row = (int)(100 * n + pairs);
+            check(call(SELECT, ON(schema, padded(own, pairs), NONE, state, WORDS(n)), marks, &out) == 0 && out == 1
+                      && marks[n - 1] == 1, "the last object's own value", row);
+            check(call(SELECT, ON(schema, padded(onward, pairs), NONE, state, WORDS(n)), marks, &out) == 0 && out == 2
+                      && marks[n - 1] == 1 && marks[n - 2] == 1, "a value's value", row);
+        }
+    }
+}
+
 static void limits(void)
 {
     static uint16_t marks[481];
@@ -577,6 +623,7 @@ int main(void)
     refusals();
     nulls();
     checks();
+    sizes();
     limits();
     stacks();
     printf("entries from C: %d checks passed\n", passed);
