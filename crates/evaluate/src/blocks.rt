@@ -33,6 +33,7 @@ fn merge_block(rows: &mut [u64], p: usize, q: usize)
     rows[i + 1] = second;
 }
 
+// Puts row `s` into row `r`, whatever the number of blocks.
 fn merge_blocks(rows: &mut [u64], r: usize, s: usize, blocks: usize)
     requires { ⌜ (r + 1) * blocks * blockWords ≤ length (now rows) ⌝ }
     requires { ⌜ (s + 1) * blocks * blockWords ≤ length (now rows) ⌝ }
@@ -68,7 +69,7 @@ fn merge_whole(rows: &mut [u64], r: usize, s: usize)
     join(rows, r, &set);
 }
 
-// Puts row `s` into row `r`.
+// Puts row `s` into row `r`: whole rows at once, others block by block.
 pub fn merge(rows: &mut [u64], r: usize, s: usize, blocks: usize)
     requires { ⌜ (r + 1) * blocks * blockWords ≤ length (now rows) ⌝ }
     requires { ⌜ (s + 1) * blocks * blockWords ≤ length (now rows) ⌝ }

@@ -30,15 +30,16 @@ mod relation;
 mod sets;
 mod steps;
 
+// Most concepts have few tokens and most states few objects; these are the sizes below the largest.
 const FEW_TOKENS: usize = 16;
 
-const FEW: usize = 64;
+const FEW_OBJECTS: usize = 64;
 
-const FEW_BLOCKS: usize = (FEW + BLOCK_BITS - 1) / BLOCK_BITS;
+const FEW_BLOCKS: usize = (FEW_OBJECTS + BLOCK_BITS - 1) / BLOCK_BITS;
 
-const SOME: usize = 192;
+const SOME_OBJECTS: usize = 192;
 
-const SOME_BLOCKS: usize = (SOME + BLOCK_BITS - 1) / BLOCK_BITS;
+const SOME_BLOCKS: usize = (SOME_OBJECTS + BLOCK_BITS - 1) / BLOCK_BITS;
 
 fn is_common(token: Token) -> bool
     ensures { λ r. ⌜ r ≡ isCommon token ⌝ }
@@ -116,7 +117,7 @@ fn with_few(
     requires { ⌜ entries conceptLayout (now concept) * setWords ≤ length (now landings) ⌝ }
     ensures { λ r. ⌜ Selection (stateOf (now (state .entry))) (conceptOf (now (concept .entry))) r ⌝ }
 {
-    let mut rows = [0u64; 3 * FEW * FEW_BLOCKS * BLOCK_WORDS];
+    let mut rows = [0u64; 3 * FEW_OBJECTS * FEW_BLOCKS * BLOCK_WORDS];
     evaluate_in(s, concept, state, seen, landings, &mut rows)
 }
 
@@ -131,7 +132,7 @@ fn with_some(
     requires { ⌜ entries conceptLayout (now concept) * setWords ≤ length (now landings) ⌝ }
     ensures { λ r. ⌜ Selection (stateOf (now (state .entry))) (conceptOf (now (concept .entry))) r ⌝ }
 {
-    let mut rows = [0u64; 3 * SOME * SOME_BLOCKS * BLOCK_WORDS];
+    let mut rows = [0u64; 3 * SOME_OBJECTS * SOME_BLOCKS * BLOCK_WORDS];
     evaluate_in(s, concept, state, seen, landings, &mut rows)
 }
 
@@ -166,10 +167,10 @@ fn with_landings(
     if !has_common(concept) {
         return without_rows(s, concept, state, seen, landings);
     }
-    if n <= FEW {
+    if n <= FEW_OBJECTS {
         return with_few(s, concept, state, seen, landings);
     }
-    if n <= SOME {
+    if n <= SOME_OBJECTS {
         return with_some(s, concept, state, seen, landings);
     }
     with_all(s, concept, state, seen, landings)
