@@ -12,7 +12,8 @@ use lib.Dec.{eqb}
 use lib.Bits.{bitAnd, bitOr, and-high, and-step, and-shr, or-step, or-shr, or-add-and, and-le-l, and-le-r}
 use lib.Arith.{bin-ind, digits-mod}
 use lib.Pow.{pow-pos, pow-mono, pow-add, pow-lt, shl-shr, shr-shr, high, ones-lt, ones-split}
-use borrow.Author.Tests.{eqb-false, ne-eqb, not-true}
+use borrow.Author.Tests.{eq-eqb, ne-eqb, eqb-true, eqb-false, not-true}
+use Rattle.records.proofs.General.BoolLaws.{test-same}
 use Rattle.chase.specs.ClassSet.{place, meets, has, full}
 
 digit : ℕ → ℕ → ℕ
@@ -54,6 +55,12 @@ unfolding has meets place
 has-of c A e =
     nonzero-of (bitAnd c (2 ^ A)) λ q.
     omega (arith, pow-pos A, sym (one-mul (2 ^ A)) ∙ ap (λ (b : ℕ). b * 2 ^ A) (sym e) ∙ sym (and-place c A) ∙ q)
+
+-- the same as a test, for whoever asks by a shift
+pub has-digit : (c A : ℕ) → eqb (c / 2 ^ A % 2) 1 ≡ has c A
+unfolding digit
+has-digit c A =
+    test-same (eqb (digit c A) 1) (has c A) (λ e. has-of c A (eqb-true (digit c A) 1 e)) (λ h. eq-eqb (digit c A) 1 (has-is c A h))
 
 -- a digit of a number that is put together digit by digit
 digit-step : (op f : ℕ → ℕ → ℕ) → ((a b : ℕ) → op a b ≡ op (a / 2) (b / 2) * 2 + f (a % 2) (b % 2))

@@ -1,18 +1,17 @@
--- A set that meets the class's own.
-use Rattle.chase.specs.ClassSet.{has}
+-- The class is in the set if its digit is 1 (has-digit): a shift brings the digit down, and no table is read.
+use Rattle.chase.proofs.ClassSetLaws.{has-digit}
 use Rattle.classes.proofs.sets.has.Statement.{statement}
 use Rattle.classes.proofs.sets.has.Tie as tie
 use borrow.Author.Needs.{needs}
 
-place-requires : tie.Need-place-requires
-place-requires c κs = search needs
+cast-result : tie.Need-cast-result
+cast-result c = search needs
 
-meets-requires : tie.Need-meets-requires
-meets-requires c κs = tt
+shr-result : tie.Need-shr-result
+shr-result c = search needs
 
 returns : tie.Need-returns
-unfolding has
-returns c = cc
+returns c = has-digit _ _
 
 pub has-spec : {M : Type 1} → statement M
-has-spec = tie.close (tie.spec place-requires meets-requires returns)
+has-spec = tie.close (tie.spec cast-result shr-result returns)
