@@ -1,4 +1,3 @@
 -- What the contracts cite beside the model.
-pub mod Asked
 pub mod Domains
 pub mod Sets

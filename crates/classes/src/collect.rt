@@ -1,4 +1,5 @@
-// What the axioms add to a class set, all by one loop over them. The schema is an accepted record.
+// What the axioms add to a class set. Each question has a loop of its own, which passes the axioms of other kinds by one test:
+// a loop for all of them would find out at each axiom anew what is asked. The schema is an accepted record.
 use crate::sets::has;
 use crate::sets::place_if;
 use records::schema::Axiom;
@@ -9,14 +10,6 @@ ghost use Rattle.records.specs.SchemaRecord.{schemaOf};
 ghost use Rattle.records.specs.SchemaRefusal.{AcceptedSchema};
 ghost use Rattle.chase.specs.Axioms.{needsBy, singleBy, valuesBy, collect as collectIn, values as valuesIn};
 ghost use Rattle.records.specs.Helpers.InRange.{AxiomInRange};
-ghost use Rattle.classes.specs.Asked.{addsBy};
-
-// What is collected: for an attribute, and for `Values` at an object with the classes of a set.
-pub enum Asked {
-    Needs(usize),
-    Single(usize),
-    Values(u32, usize),
-}
 
 fn needs_by(attribute: usize, rule: Axiom) -> u32
     requires { ⌜ AxiomInRange rule ⌝ }
@@ -57,35 +50,17 @@ fn values_by(set: u32, attribute: usize, rule: Axiom) -> u32
     }
 }
 
-fn adds(asked: Asked, rule: Axiom) -> u32
-    requires { ⌜ AxiomInRange rule ⌝ }
-    ensures { λ r. ⌜ r ≡ addsBy asked rule ⌝ }
-{
-    match asked {
-        Asked::Needs(p) => needs_by(p, rule),
-        Asked::Single(p) => single_by(p, rule),
-        Asked::Values(set, p) => values_by(set, p, rule),
-    }
-}
-
-fn collect(schema: &[u16], asked: Asked) -> u32
-    requires { ⌜ AcceptedSchema (now schema) ⌝ }
-    ensures { λ r. ⌜ r ≡ collectIn (schemaOf (now (schema .entry))) (addsBy asked) ⌝ }
-{
-    let n = axioms(schema);
-    let mut set = 0;
-    for i in 0..n {
-        set |= adds(asked, axiom_at(schema, i));
-    }
-    set
-}
-
 // The classes whose objects have a value of the attribute.
 pub fn needs_mask(schema: &[u16], attribute: usize) -> u32
     requires { ⌜ AcceptedSchema (now schema) ⌝ }
     ensures { λ r. ⌜ r ≡ collectIn (schemaOf (now (schema .entry))) (needsBy attribute) ⌝ }
 {
-    collect(schema, Asked::Needs(attribute))
+    let n = axioms(schema);
+    let mut mask = 0;
+    for i in 0..n {
+        mask |= needs_by(attribute, axiom_at(schema, i));
+    }
+    mask
 }
 
 // The classes whose objects have at most one value of the attribute.
@@ -93,7 +68,12 @@ pub fn single_mask(schema: &[u16], attribute: usize) -> u32
     requires { ⌜ AcceptedSchema (now schema) ⌝ }
     ensures { λ r. ⌜ r ≡ collectIn (schemaOf (now (schema .entry))) (singleBy attribute) ⌝ }
 {
-    collect(schema, Asked::Single(attribute))
+    let n = axioms(schema);
+    let mut mask = 0;
+    for i in 0..n {
+        mask |= single_by(attribute, axiom_at(schema, i));
+    }
+    mask
 }
 
 // The classes of a value of the attribute at an object with the classes of `set`.
@@ -101,5 +81,10 @@ pub fn values(schema: &[u16], set: u32, attribute: usize) -> u32
     requires { ⌜ AcceptedSchema (now schema) ⌝ }
     ensures { λ r. ⌜ r ≡ valuesIn (schemaOf (now (schema .entry))) set attribute ⌝ }
 {
-    collect(schema, Asked::Values(set, attribute))
+    let n = axioms(schema);
+    let mut found = 0;
+    for i in 0..n {
+        found |= values_by(set, attribute, axiom_at(schema, i));
+    }
+    found
 }
