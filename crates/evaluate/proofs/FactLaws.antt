@@ -22,14 +22,7 @@ use Rattle.evaluate.specs.Evaluable.{Evaluable}
 use Rattle.evaluate.specs.Rows.{rowBit}
 use Rattle.evaluate.specs.Steps.{endAt}
 
-kind-past : (s : Signature) (v : List ℕ) (i : ℕ) → faultyFact s v i ≡ false → factKinds ≤ kindAt v i → ⊥
-unfolding faultyFact
-kind-past s v i e h =
-    false≢true
-    (rw (le-ltb (kindAt v i) attributeKinds (omega arith), le-ltb (kindAt v i) constantKinds (omega arith), le-ltb (kindAt v i) factKinds h) at
-    (not-false (declaresKind s (kindAt v i)) (or-false-left _ _ (or-false-left _ _ e))))
-
-module _ {s : Signature} {w v seen : List ℕ} (ok : Evaluable s w v seen) where
+module _ {s : Signature} {w v : List ℕ} (ok : Evaluable s w v) where
   faultless : (i : ℕ) → i < entries stateLayout v → faultyFact s v i ≡ false
   faultless = fact-faultless s v (passes-8 s v (ok .accepted))
 
@@ -52,15 +45,6 @@ module _ {s : Signature} {w v seen : List ℕ} (ok : Evaluable s w v seen) where
   says-inside k d =
       test-same _ _ (λ t. and-right (ltb d (objects v)) _ t)
       (λ t. let (i, l, p, q) = says-at k d t in and-both _ _ (lt-ltb d (objects v) (rw q at (end-inside false i l))) t)
-
-  pub says-row : (k d : ℕ) → d < objectPart → rowBit seen k d ≡ says v k d
-  says-row k d m = pick (decLt k factKinds)
-    where
-      pick : Dec (k < factKinds) → rowBit seen k d ≡ says v k d
-      pick (yes l) = sym (index-says (ok .index) k d l m)
-      pick (no n) =
-          past-bits seen (k * objectPart + d) (omega (arith, ok .index .size))
-          ∙ sym (false-of _ (λ t. let (i, l, p, q) = says-at k d t in kind-past s v i (faultless i l) (omega arith)))
 
   -- A declared constant has one object.
   pub says-constant : (a d : ℕ) → a < s .constants → says v (constantKinds + a) d ≡ (ltb d (objects v) && eqb d (stateOf v .names a))

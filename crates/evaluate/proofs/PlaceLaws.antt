@@ -10,19 +10,21 @@ use Rattle.records.specs.declared.concept.Token.the-variants.{Class, Everything
 use Rattle.records.specs.declared.schema.Signature.{Signature}
 use Rattle.records.specs.State.{State}
 use Rattle.records.specs.Concept.{directionOf, Concept, reached, common}
-use Rattle.records.specs.Layout.{conceptLayout, entries, objectPart, constantKinds, maxTokens}
+use Rattle.records.specs.Layout.{conceptLayout, stateLayout, entries, objectPart, constantKinds, maxTokens, maxFacts}
 use Rattle.records.specs.ConceptRecord.{tokenAt, conceptOf}
 use Rattle.records.specs.StateRecord.{objects, stateOf}
 use Rattle.records.specs.ConceptRefusal.{isStep, stepAt}
 use Rattle.records.specs.Helpers.Reading.{startOf, pathAt, HasConcept, HasPath}
-use Rattle.records.proofs.AcceptedLaws.{tokens-few, accepted-concept}
+use Rattle.records.proofs.AcceptedLaws.{tokens-few, accepted-concept, passes-7, facts-few}
 use Rattle.records.proofs.General.FiniteLaws.{any-of}
 use Rattle.records.proofs.PileLaws.{start-le}
 use Rattle.records.proofs.ReadingLaws.{Reads, step-reads, concept-next, path-next}
+use Rattle.index.specs.Kinds.{KindsRise}
+use Rattle.index.proofs.KindLaws.{kinds-rise}
 use Rattle.evaluate.specs.declared.items.Found.{Found}
 use Rattle.evaluate.specs.Selection.{setWords, Selection}
 use Rattle.evaluate.specs.Evaluable.{Evaluable, isCommon, commonAt, Relations}
-use Rattle.evaluate.specs.Rows.{SharedRow, Row, Put, Below}
+use Rattle.evaluate.specs.Rows.{SharedRow, KindSet, Put, Below}
 use Rattle.evaluate.specs.Relation.{Met}
 use Rattle.evaluate.specs.Places.{Place, Landed, ConceptAt, PathAt, Walk}
 use Rattle.evaluate.proofs.FactLaws.{objects-room}
@@ -37,8 +39,8 @@ selection-as q y = rw q y
 
 -- Places: what is known at one is known at an earlier one.
 
-module _ {w v seen ls rs : List ℕ} {e : ℕ} (z : Place w v seen ls rs e) where
-  pub place-earlier : {ms ss : List ℕ} {b : ℕ} → length ms ≡ length ls → length ss ≡ length rs → b ≤ e → Place w v seen ms ss b
+module _ {w v ls rs : List ℕ} {e : ℕ} (z : Place w v ls rs e) where
+  pub place-earlier : {ms ss : List ℕ} {b : ℕ} → length ms ≡ length ls → length ss ≡ length rs → b ≤ e → Place w v ms ss b
   place-earlier q r l =
       record {
         signature = z .signature;
@@ -48,6 +50,11 @@ module _ {w v seen ls rs : List ℕ} {e : ℕ} (z : Place w v seen ls rs e) wher
         relations = λ i k t. rw r (z .relations i (omega arith) t);
         few = rw r (z .few);
       }
+
+  -- the facts of a kind stand in a row
+  pub place-facts : KindsRise v × (entries stateLayout v ≤ maxFacts)
+  place-facts =
+      (kinds-rise (z .signature) v (z .evaluable .accepted), facts-few v (passes-7 (z .signature) v (z .evaluable .accepted)))
 
   pub place-few : e ≤ maxTokens
   place-few = omega (arith, z .within, tokens-few w (z .evaluable .shape))
@@ -61,7 +68,6 @@ module _ {w v seen ls rs : List ℕ} {e : ℕ} (z : Place w v seen ls rs e) wher
   place-walk q l path landed =
       record {
         signature = z .signature;
-        seen = seen;
         evaluable = z .evaluable;
         within = omega (arith, z .within);
         path = path;
@@ -71,12 +77,12 @@ module _ {w v seen ls rs : List ℕ} {e : ℕ} (z : Place w v seen ls rs e) wher
 
 -- The item whose token stands at `at`. The code names the places that it has found.
 
-module _ {w v seen ls rs : List ℕ} {at : ℕ} (z : Place w v seen ls rs (suc at)) where
+module _ {w v ls rs : List ℕ} {at : ℕ} (z : Place w v ls rs (suc at)) where
   -- where the last operand starts, the operand before it ends
-  pub place-below : {ms ss : List ℕ} {m : ℕ} → length ms ≡ length ls → length ss ≡ length rs → m ≡ startOf w at 1 → Place w v seen ms ss m
+  pub place-below : {ms ss : List ℕ} {m : ℕ} → length ms ≡ length ls → length ss ≡ length rs → m ≡ startOf w at 1 → Place w v ms ss m
   place-below r s q = place-earlier z r s (omega (arith, start-le w at 1))
 
-  pub class-selected : {A : ℕ} {set : List ℕ} → tokenAt w at ≡ Class A → Reads w at (Class A) → Row seen A set
+  pub class-selected : {A : ℕ} {set : List ℕ} → tokenAt w at ≡ Class A → Reads w at (Class A) → KindSet v A set
       → ConceptAt w v (suc at) ls ls rs rs (record { start = at; set = set })
   class-selected is t h =
       record {
@@ -96,7 +102,7 @@ module _ {w v seen ls rs : List ℕ} {at : ℕ} (z : Place w v seen ls rs (suc a
         size = refl;
       }
 
-  pub constant-selected : {a : ℕ} {set : List ℕ} → tokenAt w at ≡ Constant a → Reads w at (Constant a) → Row seen (constantKinds + a) set
+  pub constant-selected : {a : ℕ} {set : List ℕ} → tokenAt w at ≡ Constant a → Reads w at (Constant a) → KindSet v (constantKinds + a) set
       → ConceptAt w v (suc at) ls ls rs rs (record { start = at; set = set })
   constant-selected is t h =
       record {
@@ -185,23 +191,23 @@ module _ {w v seen ls rs : List ℕ} {at : ℕ} (z : Place w v seen ls rs (suc a
 
 -- The place after the item's last token.
 
-module _ {w v seen ls rs : List ℕ} {end : ℕ} (z : Place w v seen ls rs end) where
+module _ {w v ls rs : List ℕ} {end : ℕ} (z : Place w v ls rs end) where
   module _ (h : HasConcept w end) where
-    pub concept-place : Place w v seen ls rs (suc (end - 1))
+    pub concept-place : Place w v ls rs (suc (end - 1))
     concept-place = place-earlier z refl refl (omega (arith, concept-next w end h))
 
     pub concept-put : {ms ns ss ts : List ℕ} {r : Found} → ConceptAt w v (suc (end - 1)) ms ns ss ts r → ConceptAt w v end ms ns ss ts r
     concept-put {ms} {ns} {ss} {ts} {r} y = subst (λ (e : ℕ). ConceptAt w v e ms ns ss ts r) (sym (concept-next w end h)) y
 
   module _ (h : HasPath w end) where
-    pub path-place : Place w v seen ls rs (suc (end - 1))
+    pub path-place : Place w v ls rs (suc (end - 1))
     path-place = place-earlier z refl refl (omega (arith, path-next w end h))
 
     pub path-put : {ms ns ss ts : List ℕ} {b : ℕ} → PathAt w v (suc (end - 1)) ms ns ss ts b → PathAt w v end ms ns ss ts b
     path-put {ms} {ns} {ss} {ts} {b} y = subst (λ (e : ℕ). PathAt w v e ms ns ss ts b) (sym (path-next w end h)) y
 
-module _ {s : Signature} {w v seen : List ℕ} (ok : Evaluable s w v seen) {n : ℕ} (last : n ≡ entries conceptLayout w) where
-  pub place-last : {ls rs : List ℕ} → entries conceptLayout w * setWords ≤ length ls → Relations w v rs → Place w v seen ls rs n
+module _ {s : Signature} {w v : List ℕ} (ok : Evaluable s w v) {n : ℕ} (last : n ≡ entries conceptLayout w) where
+  pub place-last : {ls rs : List ℕ} → entries conceptLayout w * setWords ≤ length ls → Relations w v rs → Place w v ls rs n
   place-last q r =
       record {
         signature = s;

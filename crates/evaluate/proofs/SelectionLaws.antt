@@ -11,21 +11,21 @@ use Rattle.records.specs.Layout.{constantKinds}
 use Rattle.records.specs.StateRecord.{stateOf}
 use Rattle.evaluate.specs.Selection.{Selection}
 use Rattle.evaluate.specs.Evaluable.{Evaluable}
-use Rattle.evaluate.specs.Rows.{SharedRow, Row, Below}
+use Rattle.evaluate.specs.Rows.{SharedRow, KindSet, Below}
 use Rattle.evaluate.proofs.RowLaws.{row-zero}
-use Rattle.evaluate.proofs.FactLaws.{says-inside, says-row, says-constant}
+use Rattle.evaluate.proofs.FactLaws.{says-inside, says-constant}
 
 -- What the facts of a kind name.
 
-module _ {s : Signature} {w v seen : List ℕ} (ok : Evaluable s w v seen) where
-  pub class-selection : {A : ℕ} {vs : List ℕ} → Row seen A vs → Selection (stateOf v) (class A) vs
+module _ {s : Signature} {w v : List ℕ} (ok : Evaluable s w v) where
+  pub class-selection : {A : ℕ} {vs : List ℕ} → KindSet v A vs → Selection (stateOf v) (class A) vs
   unfolding stateOf
-  class-selection {A} h = record { size = h .size; bits = λ d l. h .bits d l ∙ says-row ok A d l ∙ sym (says-inside ok A d) }
+  class-selection {A} h = record { size = h .size; bits = λ d l. h .bits d l ∙ sym (says-inside ok A d) }
 
-  pub constant-selection : {a : ℕ} {vs : List ℕ} → a < s .constants → Row seen (constantKinds + a) vs → Selection (stateOf v) (constant a) vs
+  pub constant-selection : {a : ℕ} {vs : List ℕ} → a < s .constants → KindSet v (constantKinds + a) vs → Selection (stateOf v) (constant a) vs
   unfolding stateOf
   constant-selection {a} m h =
-      record { size = h .size; bits = λ d l. h .bits d l ∙ says-row ok (constantKinds + a) d l ∙ says-constant ok a d m }
+      record { size = h .size; bits = λ d l. h .bits d l ∙ says-constant ok a d m }
 
 -- What sets share.
 

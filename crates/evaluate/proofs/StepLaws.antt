@@ -2,18 +2,19 @@
 use Prim.Native.Nat.{ℕ, _+_, _^_, _≤_, _<_}
 use mathlib.Core.Bool.{Bool, true, false, So, not, _&&_, _||_, or-false, and-false}
 use mathlib.Core.List.{List}
-use mathlib.Core.Path.{_≡_, refl, sym, ap₂, _∙_}
+use mathlib.Core.Path.{_≡_, refl, sym, ap, ap₂, _∙_}
 use native.Mathlib.Nat.{mod-eq-of-lt}
 use native.Mathlib.Decide.{ℕ-discrete}
 use native.Mathlib.Omega.{arith}
 use borrow.Author.Tests.{eq-eqb, ne-eqb, eqb-true}
 use lib.Dec.{eqb}
-use lib.ListN.{replicate}
+use lib.ListN.{length, replicate}
+use Rattle.records.specs.Finite.{any}
 use Rattle.records.specs.Layout.{objectPart, stateLayout, entries, leftAt, rightAt, attributeKinds}
 use Rattle.records.specs.Concept.{directionOf}
 use Rattle.records.specs.Executable.{stepsTo}
-use Rattle.records.specs.StateRecord.{objects, kindAt, objectAt, saysPair, stateOf}
-use Rattle.records.proofs.General.BoolLaws.{and-left, and-both, and-three-map}
+use Rattle.records.specs.StateRecord.{objects, kindAt, objectAt, says, saysPair, stateOf}
+use Rattle.records.proofs.General.BoolLaws.{and-left, and-both, and-three-map, eqb-same}
 use Rattle.records.proofs.General.FiniteLaws.{any-more, any-of, any-found}
 use Rattle.index.specs.BitSet.{bitAt, Inserted}
 use Rattle.index.specs.Kinds.{KindParts}
@@ -22,7 +23,7 @@ use Rattle.index.proofs.KindLaws.{kind-before, kind-after, kind-within}
 use Rattle.evaluate.specs.declared.steps.Step.{Step}
 use Rattle.evaluate.specs.declared.steps.Ends.{Ends}
 use Rattle.evaluate.specs.Selection.{setWords}
-use Rattle.evaluate.specs.Rows.{rowBit, SharedRow}
+use Rattle.evaluate.specs.Rows.{rowBit, SharedRow, KindSet}
 use Rattle.evaluate.specs.Steps.{endAt, targetAt, leadsInto, endsFrom, endsOf, objectIn, Followable, Led, Origins}
 use Rattle.evaluate.proofs.RowLaws.{row-same, row-zero}
 
@@ -123,6 +124,38 @@ module _ {w : List ℕ} {x : Step} {landings : List ℕ} {a : ℕ} {into : List 
         bits = λ o j. z .bits o j
             ∙ sym (kind-after w (leadsInto w x landings a into o) (leads-kind w x landings a into o) p l m);
       }
+
+-- The objects that the facts of a kind name.
+
+pub object-few : (w : List ℕ) (i : ℕ) → objectAt w i < objectPart
+unfolding objectAt
+object-few w i = omega arith
+
+names-kind : (w : List ℕ) (k d i : ℕ) → So (eqb (kindAt w i) k && eqb (objectAt w i) d) → kindAt w i ≡ k
+names-kind w k d i h = eqb-true (kindAt w i) k (and-left _ _ h)
+
+-- the first n facts
+pub record Naming (w : List ℕ) (k n : ℕ) (vs : List ℕ) : Type 0 where
+  pub size : length vs ≡ setWords
+  bits : (d : ℕ) → d < objectPart → bitAt vs d ≡ any n λ i. eqb (kindAt w i) k && eqb (objectAt w i) d
+
+module _ {w : List ℕ} {k : ℕ} where
+  pub naming-none : {from : ℕ} → KindParts w k from from → Naming w k from (replicate setWords 0)
+  naming-none p = record { size = refl; bits = λ d l. zero-bits setWords d ∙ sym (kind-before w _ (names-kind w k d) p) }
+
+  pub naming-more : {from to i o : ℕ} {ws vs : List ℕ} → KindParts w k from from → KindParts w (k + 1) to to → from ≤ i → i < to → o ≡ objectAt w i
+      → Naming w k i ws
+      → Inserted ws o vs
+      → Naming w k (i + 1) vs
+  naming-more {i = i} {o = o} f t a b e z h =
+      record {
+        size = h .size ∙ z .size;
+        bits = λ d l. h .bits d ∙ rw (z .bits d l, any-more (λ i. eqb (kindAt w i) k && eqb (objectAt w i) d) i, eq-eqb (kindAt w i) k (kind-within w f t i a b), e) (ap (λ (c : Bool). any i (λ j. eqb (kindAt w j) k && eqb (objectAt w j) d) || c) (eqb-same d (objectAt w i) (objectAt w i) d sym sym));
+      }
+
+  pub naming-all : {i to : ℕ} {vs : List ℕ} → Naming w k i vs → KindParts w (k + 1) to to → to ≤ i → i ≤ entries stateLayout w → KindSet w k vs
+  unfolding says
+  naming-all z p l m = record { size = z .size; bits = λ d j. z .bits d j ∙ sym (kind-after w _ (names-kind w k d) p l m) }
 
 -- A fact whose target is in a set puts its origin in.
 module _ {w : List ℕ} {e : Ends} {into : List ℕ} {i c : ℕ} {ws : List ℕ} (o-is : c ≡ objectIn w (e .origins) i) where

@@ -60,7 +60,7 @@ named-small w fits i is =
     rw (← is)
     (omega (arith, named-le (leftAt conceptLayout w i) (rightAt conceptLayout w i), fits (conceptLayout .sizes + entries conceptLayout w + i)))
 
-pub constant-declared : {s : Signature} {w v seen : List ℕ} → Evaluable s w v seen → (i : ℕ) → i < entries conceptLayout w → {a : ℕ} → tokenAt w i ≡ Constant a → a < s .constants
+pub constant-declared : {s : Signature} {w v : List ℕ} → Evaluable s w v → (i : ℕ) → i < entries conceptLayout w → {a : ℕ} → tokenAt w i ≡ Constant a → a < s .constants
 constant-declared {s} {w} ok i l {a} is = ltb-true a (s .constants) (rw is at (token-suits s w (ok .tokens) i l))
 
 -- the tokens that are no steps, by their places in the enum

@@ -118,7 +118,6 @@ module _ {w v landings : List ℕ} {at : ℕ} (z : Walk w v landings (suc at)) w
         subst (Walk w v landings) (sym e)
         (record {
           signature = z .signature;
-          seen = z .seen;
           evaluable = z .evaluable;
           within = omega (arith, z .within, start-le w at 1);
           path = s .reads .3;

@@ -13,16 +13,14 @@ use Rattle.records.specs.ConceptRecord.{tokenAt}
 use Rattle.records.specs.StateRecord.{objects}
 use Rattle.records.specs.ConceptRefusal.{refusal-3, refusal-4, refusal-5}
 use Rattle.records.specs.StateRefusal.{AcceptedState}
-use Rattle.index.specs.Index.{Indexes}
 use Rattle.evaluate.specs.Blocks.{relationWords}
 
--- a concept that is turned back for nothing but its count of steps, an accepted state, and the state's index
-pub record Evaluable (s : Signature) (concept state seen : List ℕ) : Type 0 where
+-- a concept that is turned back for nothing but its count of steps, and an accepted state
+pub record Evaluable (s : Signature) (concept state : List ℕ) : Type 0 where
   pub shape : refusal-3 concept ≡ false
   pub tokens : refusal-4 s concept ≡ false
   pub pile : refusal-5 concept ≡ false
   pub accepted : AcceptedState s state
-  pub index : Indexes state seen
 
 abbrev pub isCommon : Token → Bool
 isCommon (Class A) = false

@@ -24,9 +24,9 @@ use Rattle.evaluate.specs.Blocks.{relationWords}
 
 -- records of some signature that can be evaluated, a place e of the concept, and room for its landings and, where it asks for
 -- a common object, for three relations
-pub record Place (w v seen landings rows : List ℕ) (e : ℕ) : Type 0 where
+pub record Place (w v landings rows : List ℕ) (e : ℕ) : Type 0 where
   pub signature : Signature
-  pub evaluable : Evaluable signature w v seen
+  pub evaluable : Evaluable signature w v
   pub within : e ≤ entries conceptLayout w
   pub room : entries conceptLayout w * setWords ≤ length landings
   pub relations : (i : ℕ) → i < e → tokenAt w i ≡ Common → relationWords (objects v) ≤ length rows
@@ -62,8 +62,7 @@ pub record PathAt (w v : List ℕ) (e : ℕ) (before after rows vs : List ℕ) (
 -- a path that can be walked: it ends at e, and all its steps have their landings
 pub record Walk (w v landings : List ℕ) (e : ℕ) : Type 0 where
   pub signature : Signature
-  pub seen : List ℕ
-  pub evaluable : Evaluable signature w v seen
+  pub evaluable : Evaluable signature w v
   pub within : e ≤ entries conceptLayout w
   pub path : HasPath w e
   pub room : entries conceptLayout w * setWords ≤ length landings

@@ -6,6 +6,7 @@ use mathlib.Core.Path.{_≡_}
 use lib.Dec.{ltb}
 use lib.ListN.{length, getD}
 use Rattle.records.specs.Layout.{objectPart}
+use Rattle.records.specs.StateRecord.{says}
 use Rattle.index.specs.BitSet.{bitAt}
 use Rattle.evaluate.specs.Selection.{setWords}
 
@@ -28,6 +29,11 @@ pub record SharedRow (ps qs : List ℕ) (t : ℕ) (vs : List ℕ) : Type 0 where
 pub record Row (ws : List ℕ) (t : ℕ) (vs : List ℕ) : Type 0 where
   pub size : length vs ≡ setWords
   pub bits : (o : ℕ) → o < objectPart → bitAt vs o ≡ rowBit ws t o
+
+-- vs is the set of the objects that the facts of kind k name
+pub record KindSet (w : List ℕ) (k : ℕ) (vs : List ℕ) : Type 0 where
+  pub size : length vs ≡ setWords
+  pub bits : (d : ℕ) → d < objectPart → bitAt vs d ≡ says w k d
 
 -- vs is ws with the set as row r
 pub record Put (ws : List ℕ) (r : ℕ) (set vs : List ℕ) : Type 0 where

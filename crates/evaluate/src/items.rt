@@ -9,7 +9,6 @@ use crate::sets::everything;
 use crate::sets::kind_set;
 use crate::sets::put;
 use crate::sets::shared_row;
-use index::left::TABLE_WORDS;
 use records::concept::Token;
 use records::concept::is_step;
 use records::concept::token_at;
@@ -32,12 +31,11 @@ pub struct Found {
 pub fn concept(
     words: &[u16],
     state: &[u16],
-    seen: &[u64; TABLE_WORDS],
     end: usize,
     landings: &mut [u64],
     rows: &mut [u64],
 ) -> Found
-    requires { ⌜ Place (now words) (now state) (now seen) (now landings) (now rows) end ⌝ }
+    requires { ⌜ Place (now words) (now state) (now landings) (now rows) end ⌝ }
     requires { ⌜ HasConcept (now words) end ⌝ }
     ensures { λ r. ⌜ ConceptAt (now (words .entry)) (now (state .entry)) end (now (landings .entry)) (now (landings .exit)) (now (rows .entry)) (now (rows .exit)) r ⌝ }
 {
@@ -45,7 +43,7 @@ pub fn concept(
     match token_at(words, at) {
         Token::Class(a) => Found {
             start: at,
-            set: kind_set(seen, a),
+            set: kind_set(state, a),
         },
         Token::Everything => Found {
             start: at,
@@ -53,11 +51,11 @@ pub fn concept(
         },
         Token::Constant(a) => Found {
             start: at,
-            set: kind_set(seen, CONSTANT_KINDS + a),
+            set: kind_set(state, CONSTANT_KINDS + a),
         },
-        Token::Both => both(words, state, seen, at, landings, rows),
-        Token::Reached => reached(words, state, seen, at, landings, rows),
-        Token::Common => common(words, state, seen, at, landings, rows),
+        Token::Both => both(words, state, at, landings, rows),
+        Token::Reached => reached(words, state, at, landings, rows),
+        Token::Common => common(words, state, at, landings, rows),
         // A path's tokens end no concept.
         Token::Empty | Token::Forward(_) | Token::Backward(_) => Found {
             start: at,
@@ -67,21 +65,14 @@ pub fn concept(
 }
 
 // Both of two concepts, whose token stands at `at`.
-fn both(
-    words: &[u16],
-    state: &[u16],
-    seen: &[u64; TABLE_WORDS],
-    at: usize,
-    landings: &mut [u64],
-    rows: &mut [u64],
-) -> Found
-    requires { ⌜ Place (now words) (now state) (now seen) (now landings) (now rows) (suc at) ⌝ }
+fn both(words: &[u16], state: &[u16], at: usize, landings: &mut [u64], rows: &mut [u64]) -> Found
+    requires { ⌜ Place (now words) (now state) (now landings) (now rows) (suc at) ⌝ }
     requires { ⌜ HasConcept (now words) (suc at) ⌝ }
     requires { ⌜ tokenAt (now words) at ≡ Both ⌝ }
     ensures { λ r. ⌜ ConceptAt (now (words .entry)) (now (state .entry)) (suc at) (now (landings .entry)) (now (landings .exit)) (now (rows .entry)) (now (rows .exit)) r ⌝ }
 {
-    let last = concept(words, state, seen, at, landings, rows);
-    let first = concept(words, state, seen, last.start, landings, rows);
+    let last = concept(words, state, at, landings, rows);
+    let first = concept(words, state, last.start, landings, rows);
     let ps = first.set;
     let qs = last.set;
     Found {
@@ -91,20 +82,13 @@ fn both(
 }
 
 // Some object is reached by a path; its token stands at `at`.
-fn reached(
-    words: &[u16],
-    state: &[u16],
-    seen: &[u64; TABLE_WORDS],
-    at: usize,
-    landings: &mut [u64],
-    rows: &mut [u64],
-) -> Found
-    requires { ⌜ Place (now words) (now state) (now seen) (now landings) (now rows) (suc at) ⌝ }
+fn reached(words: &[u16], state: &[u16], at: usize, landings: &mut [u64], rows: &mut [u64]) -> Found
+    requires { ⌜ Place (now words) (now state) (now landings) (now rows) (suc at) ⌝ }
     requires { ⌜ HasConcept (now words) (suc at) ⌝ }
     requires { ⌜ tokenAt (now words) at ≡ Reached ⌝ }
     ensures { λ r. ⌜ ConceptAt (now (words .entry)) (now (state .entry)) (suc at) (now (landings .entry)) (now (landings .exit)) (now (rows .entry)) (now (rows .exit)) r ⌝ }
 {
-    let start = path(words, state, seen, at, landings, rows);
+    let start = path(words, state, at, landings, rows);
     Found {
         start,
         set: reaching(words, state, landings, at),
@@ -112,21 +96,14 @@ fn reached(
 }
 
 // Two paths reach a common object; their token stands at `at`.
-fn common(
-    words: &[u16],
-    state: &[u16],
-    seen: &[u64; TABLE_WORDS],
-    at: usize,
-    landings: &mut [u64],
-    rows: &mut [u64],
-) -> Found
-    requires { ⌜ Place (now words) (now state) (now seen) (now landings) (now rows) (suc at) ⌝ }
+fn common(words: &[u16], state: &[u16], at: usize, landings: &mut [u64], rows: &mut [u64]) -> Found
+    requires { ⌜ Place (now words) (now state) (now landings) (now rows) (suc at) ⌝ }
     requires { ⌜ HasConcept (now words) (suc at) ⌝ }
     requires { ⌜ tokenAt (now words) at ≡ Common ⌝ }
     ensures { λ r. ⌜ ConceptAt (now (words .entry)) (now (state .entry)) (suc at) (now (landings .entry)) (now (landings .exit)) (now (rows .entry)) (now (rows .exit)) r ⌝ }
 {
-    let middle = path(words, state, seen, at, landings, rows);
-    let start = path(words, state, seen, middle, landings, rows);
+    let middle = path(words, state, at, landings, rows);
+    let start = path(words, state, middle, landings, rows);
     Found {
         start,
         set: meeting(words, state, landings, middle, at, rows),
@@ -137,21 +114,20 @@ fn common(
 pub fn path(
     words: &[u16],
     state: &[u16],
-    seen: &[u64; TABLE_WORDS],
     end: usize,
     landings: &mut [u64],
     rows: &mut [u64],
 ) -> usize
-    requires { ⌜ Place (now words) (now state) (now seen) (now landings) (now rows) end ⌝ }
+    requires { ⌜ Place (now words) (now state) (now landings) (now rows) end ⌝ }
     requires { ⌜ HasPath (now words) end ⌝ }
     ensures { λ r. ⌜ PathAt (now (words .entry)) (now (state .entry)) end (now (landings .entry)) (now (landings .exit)) (now (rows .entry)) (now (rows .exit)) r ⌝ }
 {
     let at = end - 1;
     if is_step(token_at(words, at)) {
-        let landing = concept(words, state, seen, at, landings, rows);
+        let landing = concept(words, state, at, landings, rows);
         let set = landing.set;
         put(landings, at, &set);
-        path(words, state, seen, landing.start, landings, rows)
+        path(words, state, landing.start, landings, rows)
     } else {
         at
     }

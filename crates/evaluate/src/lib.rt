@@ -2,7 +2,6 @@
 use crate::layout::BLOCK_BITS;
 use crate::layout::BLOCK_WORDS;
 use crate::layout::SET_WORDS;
-use index::left::TABLE_WORDS;
 use records::concept::MAX_TOKENS;
 use records::concept::Token;
 use records::concept::token_at;
@@ -75,16 +74,15 @@ fn evaluate_in(
     s: Signature,
     concept: &[u16],
     state: &[u16],
-    seen: &[u64; TABLE_WORDS],
     landings: &mut [u64],
     rows: &mut [u64],
 ) -> [u64; SET_WORDS]
-    requires { ⌜ Evaluable s (now concept) (now state) (now seen) ⌝ }
+    requires { ⌜ Evaluable s (now concept) (now state) ⌝ }
     requires { ⌜ entries conceptLayout (now concept) * setWords ≤ length (now landings) ⌝ }
     requires { ⌜ Relations (now concept) (now state) (now rows) ⌝ }
     ensures { λ r. ⌜ Selection (stateOf (now (state .entry))) (conceptOf (now (concept .entry))) r ⌝ }
 {
-    let found = items::concept(concept, state, seen, tokens(concept), landings, rows);
+    let found = items::concept(concept, state, tokens(concept), landings, rows);
     found.set
 }
 
@@ -93,62 +91,43 @@ fn without_rows(
     s: Signature,
     concept: &[u16],
     state: &[u16],
-    seen: &[u64; TABLE_WORDS],
     landings: &mut [u64],
 ) -> [u64; SET_WORDS]
-    requires { ⌜ Evaluable s (now concept) (now state) (now seen) ⌝ }
+    requires { ⌜ Evaluable s (now concept) (now state) ⌝ }
     requires { ⌜ entries conceptLayout (now concept) * setWords ≤ length (now landings) ⌝ }
     requires { ⌜ any (entries conceptLayout (now concept)) (commonAt (now concept)) ≡ false ⌝ }
     ensures { λ r. ⌜ Selection (stateOf (now (state .entry))) (conceptOf (now (concept .entry))) r ⌝ }
 {
     let mut none = [0u64; 1];
-    evaluate_in(s, concept, state, seen, landings, &mut none)
+    evaluate_in(s, concept, state, landings, &mut none)
 }
 
 // Rows by how many objects there are. A function for each size, so that no call has a frame for more than one of them.
-fn with_few(
-    s: Signature,
-    concept: &[u16],
-    state: &[u16],
-    seen: &[u64; TABLE_WORDS],
-    landings: &mut [u64],
-) -> [u64; SET_WORDS]
-    requires { ⌜ Evaluable s (now concept) (now state) (now seen) × (objectsOf (now state) ≤ fewObjects) ⌝ }
+fn with_few(s: Signature, concept: &[u16], state: &[u16], landings: &mut [u64]) -> [u64; SET_WORDS]
+    requires { ⌜ Evaluable s (now concept) (now state) × (objectsOf (now state) ≤ fewObjects) ⌝ }
     requires { ⌜ entries conceptLayout (now concept) * setWords ≤ length (now landings) ⌝ }
     ensures { λ r. ⌜ Selection (stateOf (now (state .entry))) (conceptOf (now (concept .entry))) r ⌝ }
 {
     let mut rows = [0u64; 3 * FEW_OBJECTS * FEW_BLOCKS * BLOCK_WORDS];
-    evaluate_in(s, concept, state, seen, landings, &mut rows)
+    evaluate_in(s, concept, state, landings, &mut rows)
 }
 
-fn with_some(
-    s: Signature,
-    concept: &[u16],
-    state: &[u16],
-    seen: &[u64; TABLE_WORDS],
-    landings: &mut [u64],
-) -> [u64; SET_WORDS]
-    requires { ⌜ Evaluable s (now concept) (now state) (now seen) × (objectsOf (now state) ≤ someObjects) ⌝ }
+fn with_some(s: Signature, concept: &[u16], state: &[u16], landings: &mut [u64]) -> [u64; SET_WORDS]
+    requires { ⌜ Evaluable s (now concept) (now state) × (objectsOf (now state) ≤ someObjects) ⌝ }
     requires { ⌜ entries conceptLayout (now concept) * setWords ≤ length (now landings) ⌝ }
     ensures { λ r. ⌜ Selection (stateOf (now (state .entry))) (conceptOf (now (concept .entry))) r ⌝ }
 {
     let mut rows = [0u64; 3 * SOME_OBJECTS * SOME_BLOCKS * BLOCK_WORDS];
-    evaluate_in(s, concept, state, seen, landings, &mut rows)
+    evaluate_in(s, concept, state, landings, &mut rows)
 }
 
-fn with_all(
-    s: Signature,
-    concept: &[u16],
-    state: &[u16],
-    seen: &[u64; TABLE_WORDS],
-    landings: &mut [u64],
-) -> [u64; SET_WORDS]
-    requires { ⌜ Evaluable s (now concept) (now state) (now seen) ⌝ }
+fn with_all(s: Signature, concept: &[u16], state: &[u16], landings: &mut [u64]) -> [u64; SET_WORDS]
+    requires { ⌜ Evaluable s (now concept) (now state) ⌝ }
     requires { ⌜ entries conceptLayout (now concept) * setWords ≤ length (now landings) ⌝ }
     ensures { λ r. ⌜ Selection (stateOf (now (state .entry))) (conceptOf (now (concept .entry))) r ⌝ }
 {
     let mut rows = [0u64; 3 * MAX_OBJECTS * SET_WORDS];
-    evaluate_in(s, concept, state, seen, landings, &mut rows)
+    evaluate_in(s, concept, state, landings, &mut rows)
 }
 
 // The choice of rows.
@@ -156,65 +135,49 @@ fn with_landings(
     s: Signature,
     concept: &[u16],
     state: &[u16],
-    seen: &[u64; TABLE_WORDS],
     landings: &mut [u64],
 ) -> [u64; SET_WORDS]
-    requires { ⌜ Evaluable s (now concept) (now state) (now seen) ⌝ }
+    requires { ⌜ Evaluable s (now concept) (now state) ⌝ }
     requires { ⌜ entries conceptLayout (now concept) * setWords ≤ length (now landings) ⌝ }
     ensures { λ r. ⌜ Selection (stateOf (now (state .entry))) (conceptOf (now (concept .entry))) r ⌝ }
 {
     let n = objects(state);
     if !has_common(concept) {
-        return without_rows(s, concept, state, seen, landings);
+        return without_rows(s, concept, state, landings);
     }
     if n <= FEW_OBJECTS {
-        return with_few(s, concept, state, seen, landings);
+        return with_few(s, concept, state, landings);
     }
     if n <= SOME_OBJECTS {
-        return with_some(s, concept, state, seen, landings);
+        return with_some(s, concept, state, landings);
     }
-    with_all(s, concept, state, seen, landings)
+    with_all(s, concept, state, landings)
 }
 
 // Landings by how many tokens there are.
-fn few_tokens(
-    s: Signature,
-    concept: &[u16],
-    state: &[u16],
-    seen: &[u64; TABLE_WORDS],
-) -> [u64; SET_WORDS]
-    requires { ⌜ Evaluable s (now concept) (now state) (now seen) × (entries conceptLayout (now concept) ≤ fewTokens) ⌝ }
+fn few_tokens(s: Signature, concept: &[u16], state: &[u16]) -> [u64; SET_WORDS]
+    requires { ⌜ Evaluable s (now concept) (now state) × (entries conceptLayout (now concept) ≤ fewTokens) ⌝ }
     ensures { λ r. ⌜ Selection (stateOf (now (state .entry))) (conceptOf (now (concept .entry))) r ⌝ }
 {
     let mut landings = [0u64; FEW_TOKENS * SET_WORDS];
-    with_landings(s, concept, state, seen, &mut landings)
+    with_landings(s, concept, state, &mut landings)
 }
 
-fn all_tokens(
-    s: Signature,
-    concept: &[u16],
-    state: &[u16],
-    seen: &[u64; TABLE_WORDS],
-) -> [u64; SET_WORDS]
-    requires { ⌜ Evaluable s (now concept) (now state) (now seen) ⌝ }
+fn all_tokens(s: Signature, concept: &[u16], state: &[u16]) -> [u64; SET_WORDS]
+    requires { ⌜ Evaluable s (now concept) (now state) ⌝ }
     ensures { λ r. ⌜ Selection (stateOf (now (state .entry))) (conceptOf (now (concept .entry))) r ⌝ }
 {
     let mut landings = [0u64; MAX_TOKENS * SET_WORDS];
-    with_landings(s, concept, state, seen, &mut landings)
+    with_landings(s, concept, state, &mut landings)
 }
 
-pub fn evaluate(
-    s: Signature,
-    concept: &[u16],
-    state: &[u16],
-    seen: &[u64; TABLE_WORDS],
-) -> [u64; SET_WORDS]
-    requires { ⌜ Evaluable s (now concept) (now state) (now seen) ⌝ }
+pub fn evaluate(s: Signature, concept: &[u16], state: &[u16]) -> [u64; SET_WORDS]
+    requires { ⌜ Evaluable s (now concept) (now state) ⌝ }
     ensures { λ r. ⌜ Selection (stateOf (now (state .entry))) (conceptOf (now (concept .entry))) r ⌝ }
 {
     if tokens(concept) <= FEW_TOKENS {
-        few_tokens(s, concept, state, seen)
+        few_tokens(s, concept, state)
     } else {
-        all_tokens(s, concept, state, seen)
+        all_tokens(s, concept, state)
     }
 }

@@ -1,15 +1,15 @@
 // Sets of objects as words of bits, alone or as rows of a list of them.
 use crate::layout::SET_WORDS;
 use index::bits::insert;
-use index::left::TABLE_WORDS;
-use records::state::FACT_KINDS;
-ghost use Prim.Native.Nat.{_+_, _*_, _≤_};
+use index::kinds::first_of_kind;
+use records::state::object_at;
+ghost use Prim.Native.Nat.{_+_, _*_, _≤_, _<_, _^_};
 ghost use mathlib.Core.Path.{_≡_};
 ghost use lib.ListN.{length};
-ghost use Rattle.records.specs.Layout.{objectPart};
-ghost use Rattle.index.specs.Index.{tableWords};
+ghost use Rattle.records.specs.Layout.{objectPart, stateLayout, entries, maxFacts};
+ghost use Rattle.index.specs.Kinds.{KindsRise};
 ghost use Rattle.evaluate.specs.Selection.{setWords};
-ghost use Rattle.evaluate.specs.Rows.{SharedRow, Row, Put, Below};
+ghost use Rattle.evaluate.specs.Rows.{SharedRow, KindSet, Put, Below};
 
 // What row `t` of `ps` and of `qs` share.
 pub fn shared_row(ps: &[u64], qs: &[u64], t: usize) -> [u64; SET_WORDS]
@@ -37,15 +37,18 @@ pub fn put(ws: &mut [u64], r: usize, set: &[u64; SET_WORDS])
     }
 }
 
-// The objects that the facts of a kind name, by the index. Past the last kind there are none.
-pub fn kind_set(seen: &[u64; TABLE_WORDS], kind: usize) -> [u64; SET_WORDS]
-    requires { ⌜ length (now seen) ≡ tableWords ⌝ }
-    ensures { λ r. ⌜ Row (now (seen .entry)) kind r ⌝ }
+// The objects that the facts of a kind name: these facts alone are looked at.
+pub fn kind_set(state: &[u16], kind: usize) -> [u64; SET_WORDS]
+    requires { ⌜ KindsRise (now state) × (entries stateLayout (now state) ≤ maxFacts) × (kind < 2 ^ 17) ⌝ }
+    ensures { λ r. ⌜ KindSet (now (state .entry)) kind r ⌝ }
 {
-    if FACT_KINDS <= kind {
-        return [0u64; SET_WORDS];
+    let from = first_of_kind(state, kind);
+    let to = first_of_kind(state, kind + 1);
+    let mut out = [0u64; SET_WORDS];
+    for i in from..to {
+        insert(&mut out, object_at(state, i));
     }
-    shared_row(seen, seen, kind)
+    out
 }
 
 // The objects below `n`.

@@ -53,8 +53,8 @@ fn find(
     if place != axioms(schema) {
         return CounterexampleAnswer::No;
     }
-    let inside = evaluate::evaluate(s, query, state, &seen);
-    let outside = evaluate::evaluate(s, view, state, &seen);
+    let inside = evaluate::evaluate(s, query, state);
+    let outside = evaluate::evaluate(s, view, state);
     let n = objects(state);
     let d = lowest(&inside, &outside, n);
     if d < n {

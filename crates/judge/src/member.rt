@@ -10,7 +10,6 @@ pub fn selects(s: Signature, view: &[u16], state: &[u16], object: usize) -> bool
     requires { ⌜ Judgeable s (now view) (now state) object ⌝ }
     ensures { λ r. ⌜ r ≡ isIn (stateOf (now (state .entry))) (conceptOf (now (view .entry))) object ⌝ }
 {
-    let seen = index::left::index(state);
-    let set = evaluate::evaluate(s, view, state, &seen);
+    let set = evaluate::evaluate(s, view, state);
     index::bits::has(&set, object)
 }

@@ -56,7 +56,6 @@ pub fn select(schema: &[u16], concept: &[u16], state: &[u16], lent: &mut [u16]) 
     if lent.len() < n {
         return SelectAnswer::Refused(11);
     }
-    let seen = index::left::index(state);
-    let set = evaluate::evaluate(s, concept, state, &seen);
+    let set = evaluate::evaluate(s, concept, state);
     SelectAnswer::Selected(mark(&set, n, lent))
 }

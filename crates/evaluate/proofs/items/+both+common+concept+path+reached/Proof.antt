@@ -1,7 +1,7 @@
 -- The span of tokens falls: an operand ends before its item does, and the measure is twice the place where the item ends.
 -- A token's own function stands between: its measure is one more than that of the operands that end at its place. Each answer
 -- cites what the token makes of its operands (PlaceLaws).
-use Rattle.evaluate.proofs.PlaceLaws.{place-earlier, place-few, place-room, place-walk, place-below, class-selected, everything-selected, constant-selected, both-selected, reached-selected, last-walk, common-selected, empty-landed, step-read, step-landed, concept-place, concept-put, path-place, path-put}
+use Rattle.evaluate.proofs.PlaceLaws.{place-earlier, place-few, place-facts, place-room, place-walk, place-below, class-selected, everything-selected, constant-selected, both-selected, reached-selected, last-walk, common-selected, empty-landed, step-read, step-landed, concept-place, concept-put, path-place, path-put}
 use Rattle.evaluate.proofs.TokenLaws.{named-small}
 use Rattle.records.proofs.ReadingLaws.{concept-some, path-some, concept-next, path-next, concept-reads, concept-suc, path-suc, concept-token, concept-not-path}
 use Rattle.records.proofs.PileLaws.{start-le}
@@ -40,50 +40,50 @@ use Rattle.records.proofs.state.objects.Reads as objects-reads
 use Rattle.evaluate.proofs.items.+both+common+concept+path+reached.{statement}
 use Rattle.evaluate.proofs.items.+both+common+concept+path+reached.Tie.{close}
 
-abbrev μ-both : Measures 5 both-kinds.ps ℕ
-μ-both κs a = suc (2 * a .1 .1 .1 .0)
+abbrev μ-both : Measures 4 both-kinds.ps ℕ
+μ-both κs a = suc (2 * a .1 .1 .0)
 
-abbrev μ-common : Measures 5 common-kinds.ps ℕ
-μ-common κs a = suc (2 * a .1 .1 .1 .0)
+abbrev μ-common : Measures 4 common-kinds.ps ℕ
+μ-common κs a = suc (2 * a .1 .1 .0)
 
-abbrev μ-concept : Measures 5 concept-kinds.ps ℕ
-μ-concept κs a = 2 * a .1 .1 .1 .0
+abbrev μ-concept : Measures 4 concept-kinds.ps ℕ
+μ-concept κs a = 2 * a .1 .1 .0
 
-abbrev μ-path : Measures 5 path-kinds.ps ℕ
-μ-path κs a = 2 * a .1 .1 .1 .0
+abbrev μ-path : Measures 4 path-kinds.ps ℕ
+μ-path κs a = 2 * a .1 .1 .0
 
-abbrev μ-reached : Measures 5 reached-kinds.ps ℕ
-μ-reached κs a = suc (2 * a .1 .1 .1 .0)
+abbrev μ-reached : Measures 4 reached-kinds.ps ℕ
+μ-reached κs a = suc (2 * a .1 .1 .0)
 
-abbrev both-at : ℕ → In 5 both-kinds.ps
-both-at t = and 5 both-kinds.ps (is 5 both-kinds.ps μ-both t) both.Pre
+abbrev both-at : ℕ → In 4 both-kinds.ps
+both-at t = and 4 both-kinds.ps (is 4 both-kinds.ps μ-both t) both.Pre
 
-abbrev both-below : ℕ → In 5 both-kinds.ps
-both-below t = and 5 both-kinds.ps (falls 5 both-kinds.ps _<_ μ-both t) both.Pre
+abbrev both-below : ℕ → In 4 both-kinds.ps
+both-below t = and 4 both-kinds.ps (falls 4 both-kinds.ps _<_ μ-both t) both.Pre
 
-abbrev common-at : ℕ → In 5 common-kinds.ps
-common-at t = and 5 common-kinds.ps (is 5 common-kinds.ps μ-common t) common.Pre
+abbrev common-at : ℕ → In 4 common-kinds.ps
+common-at t = and 4 common-kinds.ps (is 4 common-kinds.ps μ-common t) common.Pre
 
-abbrev common-below : ℕ → In 5 common-kinds.ps
-common-below t = and 5 common-kinds.ps (falls 5 common-kinds.ps _<_ μ-common t) common.Pre
+abbrev common-below : ℕ → In 4 common-kinds.ps
+common-below t = and 4 common-kinds.ps (falls 4 common-kinds.ps _<_ μ-common t) common.Pre
 
-abbrev concept-at : ℕ → In 5 concept-kinds.ps
-concept-at t = and 5 concept-kinds.ps (is 5 concept-kinds.ps μ-concept t) concept.Pre
+abbrev concept-at : ℕ → In 4 concept-kinds.ps
+concept-at t = and 4 concept-kinds.ps (is 4 concept-kinds.ps μ-concept t) concept.Pre
 
-abbrev concept-below : ℕ → In 5 concept-kinds.ps
-concept-below t = and 5 concept-kinds.ps (falls 5 concept-kinds.ps _<_ μ-concept t) concept.Pre
+abbrev concept-below : ℕ → In 4 concept-kinds.ps
+concept-below t = and 4 concept-kinds.ps (falls 4 concept-kinds.ps _<_ μ-concept t) concept.Pre
 
-abbrev path-at : ℕ → In 5 path-kinds.ps
-path-at t = and 5 path-kinds.ps (is 5 path-kinds.ps μ-path t) path.Pre
+abbrev path-at : ℕ → In 4 path-kinds.ps
+path-at t = and 4 path-kinds.ps (is 4 path-kinds.ps μ-path t) path.Pre
 
-abbrev path-below : ℕ → In 5 path-kinds.ps
-path-below t = and 5 path-kinds.ps (falls 5 path-kinds.ps _<_ μ-path t) path.Pre
+abbrev path-below : ℕ → In 4 path-kinds.ps
+path-below t = and 4 path-kinds.ps (falls 4 path-kinds.ps _<_ μ-path t) path.Pre
 
-abbrev reached-at : ℕ → In 5 reached-kinds.ps
-reached-at t = and 5 reached-kinds.ps (is 5 reached-kinds.ps μ-reached t) reached.Pre
+abbrev reached-at : ℕ → In 4 reached-kinds.ps
+reached-at t = and 4 reached-kinds.ps (is 4 reached-kinds.ps μ-reached t) reached.Pre
 
-abbrev reached-below : ℕ → In 5 reached-kinds.ps
-reached-below t = and 5 reached-kinds.ps (falls 5 reached-kinds.ps _<_ μ-reached t) reached.Pre
+abbrev reached-below : ℕ → In 4 reached-kinds.ps
+reached-below t = and 4 reached-kinds.ps (falls 4 reached-kinds.ps _<_ μ-reached t) reached.Pre
 
 abbrev reached-calls : ℕ → reached-lts.Claims
 reached-calls t = (path-below t, path.Post, reaching-reads.Asked, reaching-reads.Learnt)
@@ -178,7 +178,8 @@ concept-enum-known-a : (t : ℕ) → concept-lts.Need-enum-known-a (concept-call
 concept-enum-known-a t c = search needs
 
 concept-kind-set-requires : (t : ℕ) → concept-lts.Need-kind-set-requires (concept-calls t) (concept-at t) concept.Post
-concept-kind-set-requires t c κs = c .before .before .before .before .before .before .before .before .pre .1 .0 .evaluable .index .size
+concept-kind-set-requires t c κs =
+    let (rise, few) = place-facts (c .before .before .before .before .before .before .before .before .pre .1 .0) in (rise, few, omega (arith, named-small _ (c .before .before .before .before .before .before .before .shared-slice-known .given) _ (sym (c .before .before .before .token-at .ensures) ∙ c .before .a .given .1)))
 
 concept-enum-told : (t : ℕ) → concept-lts.Need-enum-told (concept-calls t) (concept-at t) concept.Post
 concept-enum-told t c = search needs
@@ -196,7 +197,8 @@ concept-add-kind-set : (t : ℕ) → concept-lts.Need-add-kind-set (concept-call
 concept-add-kind-set t c = omega (arith, named-small _ (c .before .before .before .before .before .before .before .shared-slice-known .given) _ (sym (c .before .before .before .token-at .ensures) ∙ c .before .a2 .given .1))
 
 concept-kind-set-requires-2 : (t : ℕ) → concept-lts.Need-kind-set-requires-2 (concept-calls t) (concept-at t) concept.Post
-concept-kind-set-requires-2 t c κs = c .before .before .before .before .before .before .before .before .pre .1 .0 .evaluable .index .size
+concept-kind-set-requires-2 t c κs =
+    let (rise, few) = place-facts (c .before .before .before .before .before .before .before .before .pre .1 .0) in (rise, few, omega (arith, named-small _ (c .before .before .before .before .before .before .before .shared-slice-known .given) _ (sym (c .before .before .before .token-at .ensures) ∙ c .before .a2 .given .1)))
 
 concept-enum-told-2 : (t : ℕ) → concept-lts.Need-enum-told-2 (concept-calls t) (concept-at t) concept.Post
 concept-enum-told-2 t c = search needs

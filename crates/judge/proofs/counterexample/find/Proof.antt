@@ -35,24 +35,22 @@ returns c =
 
 evaluate-requires : tie.Need-evaluate-requires
 evaluate-requires c κs =
-    let ok = c .before .before .before .before .before .before .before .before .before .before .pre in
+    let ok = c .before .before .before .before .before .before .before .before .before .pre in
     record {
       shape = passes-3 querySteps _ _ (ok .query-accepted);
       tokens = passes-4 querySteps _ _ (ok .query-accepted);
       pile = passes-5 querySteps _ _ (ok .query-accepted);
       accepted = ok .state-accepted;
-      index = c .before .before .before .before .before .index .ensures;
     }
 
 evaluate-requires-2 : tie.Need-evaluate-requires-2
 evaluate-requires-2 c κs =
-    let ok = c .before .before .before .before .before .before .before .before .before .before .before .before .pre in
+    let ok = c .before .before .before .before .before .before .before .before .before .before .pre in
     record {
       shape = passes-3 viewSteps _ _ (ok .view-accepted);
       tokens = passes-4 viewSteps _ _ (ok .view-accepted);
       pile = passes-5 viewSteps _ _ (ok .view-accepted);
       accepted = ok .state-accepted;
-      index = c .before .before .before .before .before .before .before .index .ensures;
     }
 
 objects-requires : tie.Need-objects-requires
@@ -64,29 +62,29 @@ lowest-requires c κs = tt
 returns-2 : tie.Need-returns-2
 unfolding schemaOf stateOf
 returns-2 c =
-    let a = c .before .before .before .before .before .before .before .before .before .before .before .before .before .before .before .before .before .before .args in
-    let pre = c .before .before .before .before .before .before .before .before .before .before .before .before .before .before .before .before .before .before .pre in
+    let a = c .before .before .before .before .before .before .before .before .before .before .before .before .before .before .before .before .args in
+    let pre = c .before .before .before .before .before .before .before .before .before .before .before .before .before .before .before .before .pre in
     let n = c .before .before .before .before .objects .ensures .value in
     let few = objects-few (a .state .now) (passes-7 _ _ (pre .state-accepted)) in
     find-yes (schemaOf (a .schema .now)) (stateOf (a .state .now)) (conceptOf (a .query .now)) (conceptOf (a .view .now))
-    (sym (c .before .before .before .before .before .before .before .before .before .before .before .first-broken .ensures) ∙ c .before .before .before .before .before .before .before .before .before .if1 .left ∙ c .before .before .before .before .before .before .before .before .before .before .axioms .ensures .value) (c .before .lowest .result)
+    (sym (c .before .before .before .before .before .before .before .before .before .first-broken .ensures) ∙ c .before .before .before .before .before .before .before .if1 .left ∙ c .before .before .before .before .before .before .before .before .axioms .ensures .value) (c .before .lowest .result)
     (rw n at (c .before .lowest .ensures)
-    ∙ lowest-is (stateOf (a .state .now)) (conceptOf (a .query .now)) (conceptOf (a .view .now)) (c .before .before .before .before .before .before .before .evaluate .result)
-    (c .before .before .before .before .before .evaluate2 .result) (c .before .before .before .before .before .before .before .evaluate .ensures) (c .before .before .before .before .before .evaluate2 .ensures) (omega (arith, few)))
+    ∙ lowest-is (stateOf (a .state .now)) (conceptOf (a .query .now)) (conceptOf (a .view .now)) (c .before .before .before .before .before .before .evaluate .result)
+    (c .before .before .before .before .before .evaluate2 .result) (c .before .before .before .before .before .before .evaluate .ensures) (c .before .before .before .before .before .evaluate2 .ensures) (omega (arith, few)))
     (rw n at (c .if2 .taken))
 
 returns-3 : tie.Need-returns-3
 unfolding schemaOf stateOf
 returns-3 c =
-    let a = c .before .before .before .before .before .before .before .before .before .before .before .before .before .before .before .before .before .before .args in
-    let pre = c .before .before .before .before .before .before .before .before .before .before .before .before .before .before .before .before .before .before .pre in
+    let a = c .before .before .before .before .before .before .before .before .before .before .before .before .before .before .before .before .args in
+    let pre = c .before .before .before .before .before .before .before .before .before .before .before .before .before .before .before .before .pre in
     let n = c .before .before .before .before .objects .ensures .value in
     let few = objects-few (a .state .now) (passes-7 _ _ (pre .state-accepted)) in
     find-none (schemaOf (a .schema .now)) (stateOf (a .state .now)) (conceptOf (a .query .now)) (conceptOf (a .view .now))
-    (sym (c .before .before .before .before .before .before .before .before .before .before .before .first-broken .ensures) ∙ c .before .before .before .before .before .before .before .before .before .if1 .left ∙ c .before .before .before .before .before .before .before .before .before .before .axioms .ensures .value) (c .before .lowest .result)
+    (sym (c .before .before .before .before .before .before .before .before .before .first-broken .ensures) ∙ c .before .before .before .before .before .before .before .if1 .left ∙ c .before .before .before .before .before .before .before .before .axioms .ensures .value) (c .before .lowest .result)
     (rw n at (c .before .lowest .ensures)
-    ∙ lowest-is (stateOf (a .state .now)) (conceptOf (a .query .now)) (conceptOf (a .view .now)) (c .before .before .before .before .before .before .before .evaluate .result)
-    (c .before .before .before .before .before .evaluate2 .result) (c .before .before .before .before .before .before .before .evaluate .ensures) (c .before .before .before .before .before .evaluate2 .ensures) (omega (arith, few)))
+    ∙ lowest-is (stateOf (a .state .now)) (conceptOf (a .query .now)) (conceptOf (a .view .now)) (c .before .before .before .before .before .before .evaluate .result)
+    (c .before .before .before .before .before .evaluate2 .result) (c .before .before .before .before .before .before .evaluate .ensures) (c .before .before .before .before .before .evaluate2 .ensures) (omega (arith, few)))
     (rw n at (c .if2 .left))
 
 pub find-spec : {M : Type 1} → statement M

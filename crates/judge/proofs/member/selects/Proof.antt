@@ -10,18 +10,14 @@ use Rattle.judge.proofs.CounterexampleLaws.{selected-bit}
 use Rattle.judge.proofs.member.selects.Statement.{statement}
 use Rattle.judge.proofs.member.selects.Tie as tie
 
-index-requires : tie.Need-index-requires
-index-requires c κs = tt
-
 evaluate-requires : tie.Need-evaluate-requires
 evaluate-requires c κs =
-    let ok = c .before .before .before .before .pre in
+    let ok = c .before .before .pre in
     record {
       shape = passes-3 viewSteps _ _ (ok .view-accepted);
       tokens = passes-4 viewSteps _ _ (ok .view-accepted);
       pile = passes-5 viewSteps _ _ (ok .view-accepted);
       accepted = ok .state-accepted;
-      index = c .before .index .ensures;
     }
 
 slice-aggregate-has : tie.Need-slice-aggregate-has
@@ -33,11 +29,11 @@ has-requires c κs = tt
 returns : tie.Need-returns
 unfolding stateOf
 returns c =
-    let a = c .before .before .before .before .before .before .before .args in
-    let ok = c .before .before .before .before .before .before .before .pre in
+    let a = c .before .before .before .before .before .args in
+    let ok = c .before .before .before .before .before .pre in
     c .has .ensures
     ∙ selected-bit (stateOf (a .state .now)) (conceptOf (a .view .now)) _ (c .before .before .evaluate .ensures)
     (omega (arith, objects-few (a .state .now) (passes-7 _ _ (ok .state-accepted)))) _ (ok .inside)
 
 pub selects-spec : {M : Type 1} → statement M
-selects-spec = tie.close (tie.spec index-requires evaluate-requires slice-aggregate-has has-requires returns)
+selects-spec = tie.close (tie.spec evaluate-requires slice-aggregate-has has-requires returns)

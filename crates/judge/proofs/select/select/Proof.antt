@@ -112,23 +112,19 @@ returns-4 c =
     (schema-passed _ (accepted-schema k .1), (query-passed _ _ (accepted-concept (e .before .before .before)), (state-passed _ _ (accepted-state e), tt)))
     (lent-turned (objects (I k)) (L k) (omega (arith, c .if1 .taken, c .before .objects .ensures .value)))
 
-index-requires : tie.Need-index-requires
-index-requires c κs = tt
-
 evaluate-requires : tie.Need-evaluate-requires
 evaluate-requires c κs =
-    let e = c .before .before .before .before in
+    let e = c .before .before in
     let read : AcceptedConcept querySteps (known e .before .checked .given .0 .0) (C (known e)) = sym (e .before .before .before .before .before .check-query .ensures) ∙ e .before .before .before .enum-told .given .1 in
     record {
       shape = passes-3 querySteps _ _ read;
       tokens = passes-4 querySteps _ _ read;
       pile = passes-5 querySteps _ _ read;
       accepted = sym (e .before .before .check-state .ensures) ∙ e .enum-told2 .given .1;
-      index = c .before .index .ensures;
     }
 
 mark-requires : tie.Need-mark-requires
-mark-requires c κs = omega (arith, c .before .before .before .before .before .if1 .left)
+mark-requires c κs = omega (arith, c .before .before .before .if1 .left)
 
 same-length : tie.Need-same-length
 same-length c = search needs
@@ -136,13 +132,13 @@ same-length c = search needs
 returns-5 : tie.Need-returns-5
 unfolding stateOf
 returns-5 c =
-    let e = c .before .before .before .before .before .before .before .before .before .before in
+    let e = c .before .before .before .before .before .before .before .before in
     let k = known e in
-    let n = c .before .before .before .before .before .before .before .before .before .objects .ensures .value in
+    let n = c .before .before .before .before .before .before .before .objects .ensures .value in
     rw (c .before .before .mark .ensures .0, c .before .before .mark .ensures .1, n)
     (selection-is (stateOf (I k)) (conceptOf (C k)) (L k) (c .before .before .before .before .before .evaluate .result) (c .before .before .before .before .before .evaluate .ensures)
     (omega (arith, objects-few (I k) (passes-7 _ _ (accepted-state e))))
-    ∙ answered e (omega (arith, n, c .before .before .before .before .before .before .before .before .if1 .left)))
+    ∙ answered e (omega (arith, n, c .before .before .before .before .before .before .if1 .left)))
 
 pub select-spec : {M : Type 1} → statement M
 select-spec =
@@ -162,7 +158,6 @@ select-spec =
     returns-3
     objects-requires
     returns-4
-    index-requires
     evaluate-requires
     mark-requires
     same-length
