@@ -80,8 +80,22 @@ fn path(query: &[u16], kind: Kind, first: usize, end: usize, node: usize, list: 
     let at = end - 1;
     match token_at(query, at) {
         Token::Empty => list,
-        Token::Forward(p) => step(query, kind, first, at, node, p, false, list),
-        Token::Backward(p) => step(query, kind, first, at, node, p, true, list),
+        Token::Forward(attribute) => {
+            let ahead = StepToken {
+                at,
+                attribute,
+                backward: false,
+            };
+            step(query, kind, first, node, ahead, list)
+        }
+        Token::Backward(attribute) => {
+            let back = StepToken {
+                at,
+                attribute,
+                backward: true,
+            };
+            step(query, kind, first, node, back, list)
+        }
         // A concept's tokens end no path.
         Token::Class(_)
         | Token::Everything
@@ -92,27 +106,26 @@ fn path(query: &[u16], kind: Kind, first: usize, end: usize, node: usize, list: 
     }
 }
 
-// The path with a step at its end, whose token stands at `at`.
-fn step(
-    query: &[u16],
-    kind: Kind,
-    first: usize,
+// The token of a step: where it stands, its attribute, and whether the step goes backward.
+struct StepToken {
     at: usize,
-    node: usize,
     attribute: usize,
     backward: bool,
-    list: Words,
-) -> Words
-    requires { ⌜ Place (now query) first (suc at) node list ⌝ }
-    requires { ⌜ HasPath (now query) (suc at) ⌝ }
-    requires { ⌜ tokenAt (now query) at ≡ stepToken (directionOf backward) attribute ⌝ }
-    ensures { λ r. ⌜ PathGrown first (now (query .entry)) (suc at) node kind list r ⌝ }
+}
+
+// The path with a step at its end.
+fn step(query: &[u16], kind: Kind, first: usize, node: usize, step: StepToken, list: Words) -> Words
+    requires { ⌜ Place (now query) first (suc (step .at)) node list ⌝ }
+    requires { ⌜ HasPath (now query) (suc (step .at)) ⌝ }
+    requires { ⌜ tokenAt (now query) (step .at) ≡ stepToken (directionOf (step .backward)) (step .attribute) ⌝ }
+    ensures { λ r. ⌜ PathGrown first (now (query .entry)) (suc (step .at)) node kind list r ⌝ }
 {
+    let at = step.at;
     let landing = step_number(query, at);
     let after = concept(query, kind, first, at, landing, list);
     let middle = start_of(query, at);
     let origin = end_of(query, middle, node);
-    let led = add_edge(kind, backward, attribute, origin, landing, after);
+    let led = add_edge(kind, step.backward, step.attribute, origin, landing, after);
     path(query, kind, first, middle, node, led)
 }
 

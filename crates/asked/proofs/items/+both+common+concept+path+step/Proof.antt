@@ -50,7 +50,7 @@ abbrev μ-path : Measures 1 path-kinds.ps ℕ
 μ-path κs a = 2 * a .1 .1 .1 .0
 
 abbrev μ-step : Measures 1 step-kinds.ps ℕ
-μ-step κs a = suc (2 * a .1 .1 .1 .0)
+μ-step κs a = suc (2 * a .1 .1 .1 .1 .0 .at)
 
 abbrev both-at : ℕ → In 1 both-kinds.ps
 both-at t = and 1 both-kinds.ps (is 1 both-kinds.ps μ-both t) both.Pre
@@ -270,24 +270,24 @@ path-token-at-requires t c κs = omega (arith, place-small (c .before .pre .1 .0
 path-enum-told : (t : ℕ) → path-lts.Need-enum-told (path-calls t) (path-at t) path.Post
 path-enum-told t c = search needs
 
-path-enum-known-p : (t : ℕ) → path-lts.Need-enum-known-p (path-calls t) (path-at t) path.Post
-path-enum-known-p t c = search needs
+path-enum-known-attribute : (t : ℕ) → path-lts.Need-enum-known-attribute (path-calls t) (path-at t) path.Post
+path-enum-known-attribute t c = search needs
 
 path-step-requires : (t : ℕ) → path-lts.Need-step-requires (path-calls t) (path-at t) path.Post
 path-step-requires t c κs =
     let s = c .before .before .before .before .before in
     let h = s .pre .1 .1 in
-    let q = sym (c .before .before .before .token-at .ensures) ∙ c .before .p .given .1 in
+    let q = sym (c .before .before .before .token-at .ensures) ∙ c .before .attribute .given .1 in
     (omega (arith, s .pre .0, path-next (s .args .query .now) _ h), (path-place (s .pre .1 .0) h, (path-suc (s .args .query .now) _ h, q)))
 
-path-enum-known-p-2 : (t : ℕ) → path-lts.Need-enum-known-p-2 (path-calls t) (path-at t) path.Post
-path-enum-known-p-2 t c = search needs
+path-enum-known-attribute-2 : (t : ℕ) → path-lts.Need-enum-known-attribute-2 (path-calls t) (path-at t) path.Post
+path-enum-known-attribute-2 t c = search needs
 
 path-step-requires-2 : (t : ℕ) → path-lts.Need-step-requires-2 (path-calls t) (path-at t) path.Post
 path-step-requires-2 t c κs =
     let s = c .before .before .before .before .before in
     let h = s .pre .1 .1 in
-    let q = sym (c .before .before .before .token-at .ensures) ∙ c .before .p2 .given .1 in
+    let q = sym (c .before .before .before .token-at .ensures) ∙ c .before .attribute2 .given .1 in
     (omega (arith, s .pre .0, path-next (s .args .query .now) _ h), (path-place (s .pre .1 .0) h, (path-suc (s .args .query .now) _ h, q)))
 
 path-returns : (t : ℕ) → path-lts.Need-returns (path-calls t) (path-at t) path.Post
@@ -312,8 +312,8 @@ step-step-number-requires t c κs = omega (arith, place-small (c .before .pre .1
 step-concept-requires : (t : ℕ) → step-lts.Need-concept-requires (step-calls t) (step-at t) step.Post
 step-concept-requires t c κs =
     let s = c .before .before in
-    let r = step-reads (s .args .query .now) (s .args .at) (directionOf (s .args .backward)) (s .args .attribute) (s .pre .1 .1 .0) (s .pre .1 .1 .1) in
-    let z = place-earlier (s .pre .1 .0) {d = s .args .at} (omega arith) in
+    let r = step-reads (s .args .query .now) (s .args .step .at) (directionOf (s .args .step .backward)) (s .args .step .attribute) (s .pre .1 .1 .0) (s .pre .1 .1 .1) in
+    let z = place-earlier (s .pre .1 .0) {d = s .args .step .at} (omega arith) in
     (omega (arith, s .pre .0), (place-node z (rw (c .step-number .ensures) (place-number z)), r .2))
 
 step-start-of-requires : (t : ℕ) → step-lts.Need-start-of-requires (step-calls t) (step-at t) step.Post
@@ -322,26 +322,26 @@ step-start-of-requires t c κs = omega (arith, place-small (c .before .before .b
 step-end-of-requires : (t : ℕ) → step-lts.Need-end-of-requires (step-calls t) (step-at t) step.Post
 step-end-of-requires t c κs =
     let s = c .before .before .before .before in
-    let r = step-reads (s .args .query .now) (s .args .at) (directionOf (s .args .backward)) (s .args .attribute) (s .pre .1 .1 .0) (s .pre .1 .1 .1) in
+    let r = step-reads (s .args .query .now) (s .args .step .at) (directionOf (s .args .step .backward)) (s .args .step .attribute) (s .pre .1 .1 .0) (s .pre .1 .1 .1) in
     (place-small (place-below (s .pre .1 .0) (c .start-of .ensures) (c .before .concept .ensures)), rw (c .start-of .ensures) (r .3))
 
 step-add-edge-requires : (t : ℕ) → step-lts.Need-add-edge-requires (step-calls t) (step-at t) step.Post
 step-add-edge-requires t c κs =
     let s = c .before .before .before .before .before in
-    let r = step-reads (s .args .query .now) (s .args .at) (directionOf (s .args .backward)) (s .args .attribute) (s .pre .1 .1 .0) (s .pre .1 .1 .1) in
-    (place-room (place-between (s .pre .1 .0) (c .before .start-of .ensures) (c .before .before .concept .ensures)) (omega arith), (step-named (s .pre .1 .0) (s .args .backward) (s .pre .1 .1 .1), left-small (s .pre .1 .0) (c .before .start-of .ensures) (r .3) (c .end-of .ensures), omega (arith, c .before .before .before .step-number .ensures, place-number (place-earlier (s .pre .1 .0) {d = s .args .at} (omega arith)))))
+    let r = step-reads (s .args .query .now) (s .args .step .at) (directionOf (s .args .step .backward)) (s .args .step .attribute) (s .pre .1 .1 .0) (s .pre .1 .1 .1) in
+    (place-room (place-between (s .pre .1 .0) (c .before .start-of .ensures) (c .before .before .concept .ensures)) (omega arith), (step-named (s .pre .1 .0) (s .args .step .backward) (s .pre .1 .1 .1), left-small (s .pre .1 .0) (c .before .start-of .ensures) (r .3) (c .end-of .ensures), omega (arith, c .before .before .before .step-number .ensures, place-number (place-earlier (s .pre .1 .0) {d = s .args .step .at} (omega arith)))))
 
 step-path-requires : (t : ℕ) → step-lts.Need-path-requires (step-calls t) (step-at t) step.Post
 step-path-requires t c κs =
     let s = c .before .before .before .before .before .before in
-    let r = step-reads (s .args .query .now) (s .args .at) (directionOf (s .args .backward)) (s .args .attribute) (s .pre .1 .1 .0) (s .pre .1 .1 .1) in
-    (omega (arith, s .pre .0, c .before .before .start-of .ensures, start-le (s .args .query .now) (s .args .at) 1), (place-after (s .pre .1 .0) (c .before .before .start-of .ensures) (c .before .before .before .concept .ensures) (c .add-edge .ensures), rw (c .before .before .start-of .ensures) (r .3)))
+    let r = step-reads (s .args .query .now) (s .args .step .at) (directionOf (s .args .step .backward)) (s .args .step .attribute) (s .pre .1 .1 .0) (s .pre .1 .1 .1) in
+    (omega (arith, s .pre .0, c .before .before .start-of .ensures, start-le (s .args .query .now) (s .args .step .at) 1), (place-after (s .pre .1 .0) (c .before .before .start-of .ensures) (c .before .before .before .concept .ensures) (c .add-edge .ensures), rw (c .before .before .start-of .ensures) (r .3)))
 
 step-returns : (t : ℕ) → step-lts.Need-returns (step-calls t) (step-at t) step.Post
 step-returns t c =
     let s = c .before .before .before .before .before .before .before in
-    let r = step-reads (s .args .query .now) (s .args .at) (directionOf (s .args .backward)) (s .args .attribute) (s .pre .1 .1 .0) (s .pre .1 .1 .1) in
-    step-grown (s .pre .1 .0) (c .before .before .before .start-of .ensures) (s .args .attribute) (s .args .backward) r
+    let r = step-reads (s .args .query .now) (s .args .step .at) (directionOf (s .args .step .backward)) (s .args .step .attribute) (s .pre .1 .1 .0) (s .pre .1 .1 .1) in
+    step-grown (s .pre .1 .0) (c .before .before .before .start-of .ensures) (s .args .step .attribute) (s .args .step .backward) r
     (c .before .before .before .before .before .step-number .ensures) (c .before .before .end-of .ensures) (c .before .before .before .before .concept .ensures)
     (c .before .add-edge .ensures) (c .path .ensures)
 
@@ -395,9 +395,9 @@ pub +both+common+concept+path+step-spec : {M : Type 1} → statement M
     (path-sub-at t)
     (path-token-at-requires t)
     (path-enum-told t)
-    (path-enum-known-p t)
+    (path-enum-known-attribute t)
     (path-step-requires t)
-    (path-enum-known-p-2 t)
+    (path-enum-known-attribute-2 t)
     (path-step-requires-2 t)
     (path-returns t)
     (path-returns-2 t)
