@@ -19,6 +19,7 @@ use Rattle.chase.specs.Forest.{Forest, grow, size, lacks, sprout, make, makeFor
 use Rattle.chase.proofs.LoopLaws.{each-next}
 use Rattle.records.proofs.General.BoolLaws.{cond-elim}
 use Rattle.ground.specs.Objects.{link, objectWord, classesIn, makerIn, forestIn, groundIn}
+use Rattle.forest.specs.declared.places.Root.{Root}
 use Rattle.forest.specs.declared.places.Here.{Here}
 use Rattle.forest.specs.Kept.{Kept, Grows}
 use Rattle.forest.specs.Places.{standing, Stands, madeFor}
@@ -186,23 +187,35 @@ module _ (schema edges objects : List ℕ) (g n mask P : ℕ) (l : List ℕ) whe
 pub listed : {h : Here} → Stands h → h .count ≡ length (standing h)
 listed {h} stands = sym (length-take-le (h .count) (h .at) (omega (arith, stands .few, stands .room)))
 
--- the values of s and of those on the list where the walk stands
-module _ {schema edges objects : List ℕ} {g P s : ℕ} {h : Here} (back : Bool) (q : back ≡ false)
-    (can : CanMakeFor schema edges objects g back P s h) where
-  all-of : madeFor schema edges objects g back P s h
-      ≡ each (make (schemaOf schema) (groundIn g objects edges) P) (standing h) (madeAt schema edges objects g (h .size) P s)
+-- the values of the start and of those on the list where the walk stands
+module _ {schema edges objects : List ℕ} {root : Root} {P : ℕ} {h : Here} (back : Bool) (q : back ≡ false)
+    (can : CanMakeFor schema edges objects root back P h) where
+  abbrev S : Schema
+  S = schemaOf schema
+
+  abbrev g : ℕ
+  g = root .ground
+
+  abbrev s : ℕ
+  s = root .start
+
+  abbrev G : Ground
+  G = groundIn g objects edges
+
+  all-of : madeFor schema edges objects root back P h
+      ≡ each (make S G P) (standing h) (madeAt schema edges objects g (h .size) P s)
   unfolding each makeFor
   all-of =
       ap
-      (λ (b : Bool). makeFor (schemaOf schema) (groundIn g objects edges) (directionOf b) P (s ∷ standing h) (forestIn g (h .size) objects))
+      (λ (b : Bool). makeFor S G (directionOf b) P (s ∷ standing h) (forestIn g (h .size) objects))
       q
 
-  all-fit : size (groundIn g objects edges)
-      (each (make (schemaOf schema) (groundIn g objects edges) P) (standing h) (madeAt schema edges objects g (h .size) P s))
+  all-fit : size G
+      (each (make S G P) (standing h) (madeAt schema edges objects g (h .size) P s))
       ≤ maxObjects
-  all-fit = subst (λ (T : Forest). size (groundIn g objects edges) T ≤ maxObjects) all-of (can .fits)
+  all-fit = subst (λ (T : Forest). size G T ≤ maxObjects) all-of (can .fits)
 
-  pub make-first : (mask : ℕ) → mask ≡ collect (schemaOf schema) (needsBy P) → CanMake schema edges objects g (h .size) mask P s
+  pub make-first : (mask : ℕ) → mask ≡ collect S (needsBy P) → CanMake schema edges objects g (h .size) mask P s
   make-first mask e =
       record {
         legal = can .legal;
@@ -213,13 +226,13 @@ module _ {schema edges objects : List ℕ} {g P s : ℕ} {h : Here} (back : Bool
         fits =
             omega (
               arith,
-              each-more (schemaOf schema) (groundIn g objects edges) P (standing h) (madeAt schema edges objects g (h .size) P s),
+              each-more S G P (standing h) (madeAt schema edges objects g (h .size) P s),
               all-fit,
             );
       }
 
   module _ (n : ℕ) (after : List ℕ) (so : Grows g (h .size) n objects after (madeAt schema edges objects g (h .size) P s)) where
-    pub make-rest : (mask : ℕ) → mask ≡ collect (schemaOf schema) (needsBy P) → CanMakeAll schema edges after g n mask P (standing h)
+    pub make-rest : (mask : ℕ) → mask ≡ collect S (needsBy P) → CanMakeAll schema edges after g n mask P (standing h)
     make-rest mask e =
         let long = listed (can .stands) in
         record {
@@ -232,21 +245,21 @@ module _ {schema edges objects : List ℕ} {g P s : ℕ} {h : Here} (back : Bool
           fits =
               subst (λ (m : ℕ). m ≤ maxObjects)
               (sym
-              (ap₂ (λ (H : Ground) (T : Forest). size H (each (make (schemaOf schema) H P) (standing h) T))
+              (ap₂ (λ (H : Ground) (T : Forest). size H (each (make S H P) (standing h) T))
               (ground-kept g after objects edges (so .ground)) (so .value)))
               all-fit;
         }
 
     pub made-for : (r : ℕ) (last : List ℕ) → Grows g n r after last (madeAll schema edges after g n P (standing h))
-        → Grows g (h .size) r objects last (madeFor schema edges objects g back P s h)
+        → Grows g (h .size) r objects last (madeFor schema edges objects root back P h)
     made-for r last y =
         subst (Grows g (h .size) r objects last) (sym all-of)
-        (grows-then edges (λ H T. each (make (schemaOf schema) H P) (standing h) T) so y)
+        (grows-then edges (λ H T. each (make S H P) (standing h) T) so y)
 
 -- nothing is made before a backward step
-pub made-back : {schema edges objects : List ℕ} {g P s : ℕ} {h : Here} (back : Bool) → back ≡ true
-    → CanMakeFor schema edges objects g back P s h
-    → Grows g (h .size) (h .size) objects objects (madeFor schema edges objects g back P s h)
+pub made-back : {schema edges objects : List ℕ} {root : Root} {P : ℕ} {h : Here} (back : Bool) → back ≡ true
+    → CanMakeFor schema edges objects root back P h
+    → Grows (root .ground) (h .size) (h .size) objects objects (madeFor schema edges objects root back P h)
 unfolding makeFor
 made-back false q can = absurd (false≢true q)
 made-back true q can = grows-self (can .kept) refl

@@ -15,6 +15,7 @@ use Rattle.chase.specs.Forest.{Forest, size, kid, parent, push, hop, next}
 use Rattle.records.proofs.General.BoolLaws.{cond-elim}
 use Rattle.chase.proofs.ForestLaws.{kid-bound}
 use Rattle.ground.specs.Objects.{attributeIn, forestIn, groundIn}
+use Rattle.forest.specs.declared.places.Root.{Root}
 use Rattle.forest.specs.declared.places.Here.{Here}
 use Rattle.forest.specs.Kept.{Kept}
 use Rattle.forest.specs.Places.{maxPlaces, standing, Stands, Begins, Pushed, Hopped, Follows}
@@ -103,16 +104,16 @@ module _ (G : Ground) (T : Forest) (r : Direction) (P : ℕ) where
   next-more s l i h =
       ap (λ (m : List ℕ). next G T r P (s ∷ m)) (take-suc l i 0 h) ∙ next-append (s ∷ take i l) (getD l i 0 ∷ [])
 
-module _ (g : ℕ) (objects : List ℕ) (back : Bool) (P s : ℕ) where
+module _ (root : Root) (objects : List ℕ) (back : Bool) (P : ℕ) where
   -- after the first i of the list
   pub record After (n : ℕ) (l : List ℕ) (i : ℕ) (r : Here) : Type 0 where
     pub list : (edges : List ℕ)
-        → standing r ≡ next (groundIn g objects edges) (forestIn g n objects) (directionOf back) P (s ∷ take i l)
+        → standing r ≡ next (groundIn (root .ground) objects edges) (forestIn (root .ground) n objects) (directionOf back) P (root .start ∷ take i l)
     pub stands : Stands r
     pub size : r .size ≡ n
     pub more : r .count ≤ i + 1
 
-  pub after-none : {n k : ℕ} {b r : Here} (l : List ℕ) → Begins n b → Hopped g n objects back P s k → Pushed b k r → After n l 0 r
+  pub after-none : {n k : ℕ} {b r : Here} (l : List ℕ) → Begins n b → Hopped (root .ground) n objects back P (root .start) k → Pushed b k r → After n l 0 r
   after-none {n} {k} {b} {r} l begins hopped pushed =
       record {
         list = λ edges.
@@ -123,31 +124,31 @@ module _ (g : ℕ) (objects : List ℕ) (back : Bool) (P s : ℕ) where
       }
 
   pub after-more : {h b r : Here} {k d : ℕ} (i : ℕ) → Stands h → i < h .count → d ≡ getD (h .at) i 0
-      → After (h .size) (standing h) i b → Hopped g (h .size) objects back P d k → Pushed b k r
+      → After (h .size) (standing h) i b → Hopped (root .ground) (h .size) objects back P d k → Pushed b k r
       → After (h .size) (standing h) (i + 1) r
   after-more {h} {b} {r} {k} {d} i stands l e after hopped pushed =
       let long : length (standing h) ≡ h .count
       = length-take-le (h .count) (h .at) (omega (arith, stands .few, stands .room)) in
       record {
         list = λ edges.
-            let G = groundIn g objects edges in
-            let T = forestIn g (h .size) objects in
+            let G = groundIn (root .ground) objects edges in
+            let T = forestIn (root .ground) (h .size) objects in
             pushed .list ∙ ap₂ (λ (m : List ℕ) (j : ℕ). m ++ push j []) (after .list edges) (hopped .value edges)
-            ∙ ap (λ (j : ℕ). next G T (directionOf back) P (s ∷ take i (standing h)) ++ push (hop G T (directionOf back) P j) [])
+            ∙ ap (λ (j : ℕ). next G T (directionOf back) P (root .start ∷ take i (standing h)) ++ push (hop G T (directionOf back) P j) [])
             (e ∙ sym (getD-take (h .count) (h .at) i 0 l))
-            ∙ rw add-one (sym (next-more G T (directionOf back) P s (standing h) i (omega (arith, long))));
+            ∙ rw add-one (sym (next-more G T (directionOf back) P (root .start) (standing h) i (omega (arith, long))));
         stands = pushed .stands;
         size = pushed .size ∙ after .size;
         more = omega (arith, pushed .more, after .more);
       }
 
   pub after-all : {h r : Here} (i : ℕ) → Stands h → i ≤ h .count → h .count ≤ i
-      → After (h .size) (standing h) i r → Follows g objects back P s h r
+      → After (h .size) (standing h) i r → Follows root objects back P h r
   after-all {h} {r} i stands a b after =
       record {
         list = λ edges.
             after .list edges
-            ∙ ap (λ (m : List ℕ). next (groundIn g objects edges) (forestIn g (h .size) objects) (directionOf back) P (s ∷ m))
+            ∙ ap (λ (m : List ℕ). next (groundIn (root .ground) objects edges) (forestIn (root .ground) (h .size) objects) (directionOf back) P (root .start ∷ m))
             (take-all i (standing h)
             (omega (arith, length-take-le (h .count) (h .at) (omega (arith, stands .few, stands .room)))));
         stands = after .stands;

@@ -21,6 +21,7 @@ use Rattle.records.specs.Helpers.Reading.{conceptAt, HasConcept}
 use Rattle.chase.proofs.SizeLaws.{walks-size}
 use Rattle.chase.specs.Bounds.{maxNodes, maxForest}
 use Rattle.ground.specs.Objects.{forestIn, groundIn}
+use Rattle.forest.specs.declared.places.Root.{Root}
 use Rattle.forest.specs.declared.places.Here.{Here}
 use Rattle.forest.specs.Kept.{Kept, Grows}
 use Rattle.forest.specs.Places.{Begins}
@@ -74,6 +75,9 @@ module _ (schema view edges objects : List ℕ) (g : ℕ) (legal : AcceptedSchem
   unfolding upto
   rounds-none = grows-self kept (forest-none g g objects (omega (arith, kept .laid .fits, kept .laid .room)))
 
+  abbrev pub from : ℕ → Root
+  from s = record { ground = g; start = s }
+
   -- the walk from s
   module _ {n s end : ℕ} {h : Here} {b : List ℕ} (l : s < g) (x : Grows g g n objects b (rounds S G (conceptOf view) s))
       (begins : Begins n h) (e : end ≡ entries conceptLayout view) where
@@ -81,12 +85,12 @@ module _ (schema view edges objects : List ℕ) (g : ℕ) (legal : AcceptedSchem
     unfolding conceptOf
     whole = ap (conceptAt view) e
 
-    walk-is : walked schema edges b g s h (conceptAt view end) ≡ walk S (groundIn g b edges) (conceptOf view) s [] (forestIn g n b)
+    walk-is : walked schema edges b (from s) h (conceptAt view end) ≡ walk S (groundIn g b edges) (conceptOf view) s [] (forestIn g n b)
     walk-is =
-        ap (λ (C : Concept). walked schema edges b g s h C) whole
+        ap (λ (C : Concept). walked schema edges b (from s) h C) whole
         ∙ ap₂ (λ (m : List ℕ) (k : ℕ). walk S (groundIn g b edges) (conceptOf view) s m (forestIn g k b)) (begins .list) (begins .size)
 
-    pub round-walk : CanWalk schema view edges b g s end h
+    pub round-walk : CanWalk schema view edges b (from s) end h
     unfolding upto
     round-walk =
         record {
@@ -110,13 +114,13 @@ module _ (schema view edges objects : List ℕ) (g : ℕ) (legal : AcceptedSchem
           places = omega (arith, begins .count, ap conceptSteps whole, short);
         }
 
-    pub rounds-next : {r : ℕ} {last : List ℕ} → Walked schema view edges b g s end h last r
+    pub rounds-next : {r : ℕ} {last : List ℕ} → Walked schema view edges b (from s) end h last r
         → Grows g g r objects last (rounds S G (conceptOf view) (s + 1))
     unfolding upto
     rounds-next {r} {last} y =
         let z : Grows g n r b last (walk S (groundIn g b edges) (conceptOf view) s [] (forestIn g n b))
         = subst (Grows g n r b last) walk-is
-        (subst (λ (k : ℕ). Grows g k r b last (walked schema edges b g s h (conceptAt view end))) (begins .size) y) in
+        (subst (λ (k : ℕ). Grows g k r b last (walked schema edges b (from s) h (conceptAt view end))) (begins .size) y) in
         rw add-one (grows-then edges (λ H U. walk S H (conceptOf view) s [] U) x z)
 
   pub rounds-all : {n s : ℕ} {b : List ℕ} → s ≤ g → g ≤ s → Grows g g n objects b (rounds S G (conceptOf view) s)

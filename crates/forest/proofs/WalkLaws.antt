@@ -23,6 +23,7 @@ use Rattle.records.specs.Helpers.Steps.{conceptSteps, pathSteps}
 use Rattle.chase.specs.Forest.{Forest, size, walk, trek, makeFor, next}
 use Rattle.chase.proofs.SizeLaws.{trek-size}
 use Rattle.ground.specs.Objects.{forestIn, groundIn}
+use Rattle.forest.specs.declared.places.Root.{Root}
 use Rattle.forest.specs.declared.places.Here.{Here}
 use Rattle.forest.specs.Kept.{Kept, Grows}
 use Rattle.forest.specs.Places.{maxPlaces, standing, Stands, Follows, madeFor}
@@ -59,9 +60,9 @@ pub stands-grown : {h : Here} {n : ℕ} → Stands h → h .size ≤ n → Stand
 stands-grown s m =
     record { room = s .room; few = s .few; inside = λ i k. omega (arith, s .inside i k) }
 
-module _ {schema view objects : List ℕ} {g s : ℕ} {h : Here} where
+module _ {schema view objects : List ℕ} {root : Root} {h : Here} where
   -- at an earlier place
-  earlier : {e : ℕ} → Walking schema view objects g s e h → (d : ℕ) → d ≤ e → Walking schema view objects g s d h
+  earlier : {e : ℕ} → Walking schema view objects root e h → (d : ℕ) → d ≤ e → Walking schema view objects root d h
   earlier w d l =
       record {
         legal = w .legal;
@@ -73,15 +74,15 @@ module _ {schema view objects : List ℕ} {g s : ℕ} {h : Here} where
       }
 
   -- among the objects after a change, with another list
-  later : {e n : ℕ} {after : List ℕ} {T : Forest} → Walking schema view objects g s e h → Grows g (h .size) n objects after T
+  later : {e n : ℕ} {after : List ℕ} {T : Forest} → Walking schema view objects root e h → Grows (root .ground) (h .size) n objects after T
       → (q : Here) → q .size ≡ n → Stands q
-      → Walking schema view after g s e q
+      → Walking schema view after root e q
   later {n = n} {after = after} w x q eq stands =
       record {
         legal = w .legal;
         sound = w .sound;
         within = w .within;
-        kept = subst (λ (k : ℕ). Kept g k after) (sym eq) (x .kept);
+        kept = subst (λ (k : ℕ). Kept (root .ground) k after) (sym eq) (x .kept);
         start = omega (arith, w .start, x .more);
         stands = stands;
       }
@@ -91,12 +92,12 @@ pub same-size : {g n m : ℕ} {a b : List ℕ} {U : Forest} (edges : List ℕ) (
     → size (groundIn g b edges) (f (groundIn g b edges) (forestIn g m b)) ≡ size (groundIn g a edges) (f (groundIn g a edges) U)
 same-size {g} {n} {m} {a} {b} edges f x = ap₂ (λ (H : Ground) (T : Forest). size H (f H T)) (ground-kept g b a edges (x .ground)) (x .value)
 
-module _ {schema view edges objects : List ℕ} {g s at : ℕ} {h : Here} (can : CanWalk schema view edges objects g s (suc at) h) where
+module _ {schema view edges objects : List ℕ} {root : Root} {at : ℕ} {h : Here} (can : CanWalk schema view edges objects root (suc at) h) where
   -- the walk of what the token says
   of : (C : Concept) → conceptAt view (suc at) ≡ C
-      → (size (groundIn g objects edges) (walked schema edges objects g s h C) ≤ maxObjects) × (h .count + conceptSteps C ≤ viewSteps)
+      → (size (groundIn (root .ground) objects edges) (walked schema edges objects root h C) ≤ maxObjects) × (h .count + conceptSteps C ≤ viewSteps)
   of C q = (
-    subst (λ (D : Concept). size (groundIn g objects edges) (walked schema edges objects g s h D) ≤ maxObjects) q (can .fits),
+    subst (λ (D : Concept). size (groundIn (root .ground) objects edges) (walked schema edges objects root h D) ≤ maxObjects) q (can .fits),
     subst (λ (D : Concept). h .count + conceptSteps D ≤ viewSteps) q (can .places),
   )
 
@@ -105,7 +106,7 @@ module _ {schema view edges objects : List ℕ} {g s at : ℕ} {h : Here} (can :
     reads : Reads view at Both
     reads = concept-reads view at Both (can .item) is
 
-    pub both-first : CanWalk schema view edges objects g s (startOf view at 1) h
+    pub both-first : CanWalk schema view edges objects root (startOf view at 1) h
     both-first =
         let o = of (both (conceptAt view (startOf view at 1)) (conceptAt view at)) (reads .0) in
         record {
@@ -115,35 +116,35 @@ module _ {schema view edges objects : List ℕ} {g s at : ℕ} {h : Here} (can :
               omega (
                 arith,
                 o .0,
-                walk-more (schemaOf schema) (groundIn g objects edges) (conceptAt view at) s (standing h)
-                    (walked schema edges objects g s h (conceptAt view (startOf view at 1))),
+                walk-more (schemaOf schema) (groundIn (root .ground) objects edges) (conceptAt view at) (root .start) (standing h)
+                    (walked schema edges objects root h (conceptAt view (startOf view at 1))),
               );
           places = omega (arith, o .1);
         }
 
-    module _ {n : ℕ} {after : List ℕ} (x : Walked schema view edges objects g s (startOf view at 1) h after n) where
-      pub both-last : CanWalk schema view edges after g s at (grown h n)
+    module _ {n : ℕ} {after : List ℕ} (x : Walked schema view edges objects root (startOf view at 1) h after n) where
+      pub both-last : CanWalk schema view edges after root at (grown h n)
       both-last =
           let o = of (both (conceptAt view (startOf view at 1)) (conceptAt view at)) (reads .0) in
           record {
             walking = earlier (later (can .walking) x (grown h n) refl (stands-grown (can .walking .stands) (x .more))) at (omega arith);
             item = reads .2;
-            fits = omega (arith, o .0, same-size edges (λ H U. walk (schemaOf schema) H (conceptAt view at) s (standing h) U) x);
+            fits = omega (arith, o .0, same-size edges (λ H U. walk (schemaOf schema) H (conceptAt view at) (root .start) (standing h) U) x);
             places = omega (arith, o .1);
           }
 
-      pub both-walked : {r : ℕ} {last : List ℕ} → Walked schema view edges after g s at (grown h n) last r
-          → Walked schema view edges objects g s (suc at) h last r
+      pub both-walked : {r : ℕ} {last : List ℕ} → Walked schema view edges after root at (grown h n) last r
+          → Walked schema view edges objects root (suc at) h last r
       both-walked {r} {last} y =
-          subst (λ (C : Concept). Grows g (h .size) r objects last (walked schema edges objects g s h C)) (sym (reads .0))
-          (grows-then edges (λ H U. walk (schemaOf schema) H (conceptAt view at) s (standing h) U) x y)
+          subst (λ (C : Concept). Grows (root .ground) (h .size) r objects last (walked schema edges objects root h C)) (sym (reads .0))
+          (grows-then edges (λ H U. walk (schemaOf schema) H (conceptAt view at) (root .start) (standing h) U) x y)
 
   -- reached
   module _ (is : tokenAt view at ≡ Reached) where
     reads-path : Reads view at Reached
     reads-path = concept-reads view at Reached (can .item) is
 
-    pub reached-path : CanTrek schema view edges objects g s at h
+    pub reached-path : CanTrek schema view edges objects root at h
     reached-path =
         let o = of (reached (pathAt view at)) (reads-path .0) in
         record {
@@ -153,17 +154,17 @@ module _ {schema view edges objects : List ℕ} {g s at : ℕ} {h : Here} (can :
           places = o .1;
         }
 
-    pub reached-walked : {r : Here} {after : List ℕ} → Trekked schema view edges objects g s at h after r
-        → Walked schema view edges objects g s (suc at) h after (r .size)
+    pub reached-walked : {r : Here} {after : List ℕ} → Trekked schema view edges objects root at h after r
+        → Walked schema view edges objects root (suc at) h after (r .size)
     reached-walked {r} {after} y =
-        subst (λ (C : Concept). Grows g (h .size) (r .size) objects after (walked schema edges objects g s h C)) (sym (reads-path .0)) (y .grows)
+        subst (λ (C : Concept). Grows (root .ground) (h .size) (r .size) objects after (walked schema edges objects root h C)) (sym (reads-path .0)) (y .grows)
 
   -- a common object
   module _ (is : tokenAt view at ≡ Common) where
     reads-paths : Reads view at Common
     reads-paths = concept-reads view at Common (can .item) is
 
-    pub common-first : CanTrek schema view edges objects g s (startOf view at 1) h
+    pub common-first : CanTrek schema view edges objects root (startOf view at 1) h
     common-first =
         let o = of (common (pathAt view (startOf view at 1)) (pathAt view at)) (reads-paths .0) in
         record {
@@ -173,14 +174,14 @@ module _ {schema view edges objects : List ℕ} {g s at : ℕ} {h : Here} (can :
               omega (
                 arith,
                 o .0,
-                trek-more (schemaOf schema) (groundIn g objects edges) (pathAt view at) s (standing h)
-                    (trekked schema edges objects g s h (pathAt view (startOf view at 1)) .0),
+                trek-more (schemaOf schema) (groundIn (root .ground) objects edges) (pathAt view at) (root .start) (standing h)
+                    (trekked schema edges objects root h (pathAt view (startOf view at 1)) .0),
               );
           places = omega (arith, o .1);
         }
 
-    module _ {q : Here} {after : List ℕ} (x : Trekked schema view edges objects g s (startOf view at 1) h after q) where
-      pub common-last : CanTrek schema view edges after g s at (grown h (q .size))
+    module _ {q : Here} {after : List ℕ} (x : Trekked schema view edges objects root (startOf view at 1) h after q) where
+      pub common-last : CanTrek schema view edges after root at (grown h (q .size))
       common-last =
           let o = of (common (pathAt view (startOf view at 1)) (pathAt view at)) (reads-paths .0) in
           record {
@@ -188,19 +189,31 @@ module _ {schema view edges objects : List ℕ} {g s at : ℕ} {h : Here} (can :
                 earlier (later (can .walking) (x .grows) (grown h (q .size)) refl (stands-grown (can .walking .stands) (x .grows .more)))
                 at (omega arith);
             item = reads-paths .2;
-            fits = omega (arith, o .0, same-size edges (λ H U. trek (schemaOf schema) H (pathAt view at) s (standing h) U .0) (x .grows));
+            fits = omega (arith, o .0, same-size edges (λ H U. trek (schemaOf schema) H (pathAt view at) (root .start) (standing h) U .0) (x .grows));
             places = omega (arith, o .1);
           }
 
-      pub common-walked : {r : Here} {last : List ℕ} → Trekked schema view edges after g s at (grown h (q .size)) last r
-          → Walked schema view edges objects g s (suc at) h last (r .size)
+      pub common-walked : {r : Here} {last : List ℕ} → Trekked schema view edges after root at (grown h (q .size)) last r
+          → Walked schema view edges objects root (suc at) h last (r .size)
       common-walked {r} {last} y =
-          subst (λ (C : Concept). Grows g (h .size) (r .size) objects last (walked schema edges objects g s h C)) (sym (reads-paths .0))
-          (grows-then edges (λ H U. trek (schemaOf schema) H (pathAt view at) s (standing h) U .0) (x .grows) (y .grows))
+          subst (λ (C : Concept). Grows (root .ground) (h .size) (r .size) objects last (walked schema edges objects root h C)) (sym (reads-paths .0))
+          (grows-then edges (λ H U. trek (schemaOf schema) H (pathAt view at) (root .start) (standing h) U .0) (x .grows) (y .grows))
 
 -- A step: the path before it, the values that it asks for, the list after it, and the concept on which it lands.
-module _ {schema view edges objects : List ℕ} {g s at : ℕ} {h : Here} (can : CanTrek schema view edges objects g s (suc at) h)
+module _ {schema view edges objects : List ℕ} {root : Root} {at : ℕ} {h : Here} (can : CanTrek schema view edges objects root (suc at) h)
     (P : ℕ) (back : Bool) (is : tokenAt view at ≡ stepToken (directionOf back) P) where
+  abbrev S : Schema
+  S = schemaOf schema
+
+  abbrev g : ℕ
+  g = root .ground
+
+  abbrev s : ℕ
+  s = root .start
+
+  abbrev G : Ground
+  G = groundIn g objects edges
+
   reads-step : ReadsStep view at (directionOf back) P
   reads-step = step-reads view at (directionOf back) P (can .item) is
 
@@ -213,27 +226,27 @@ module _ {schema view edges objects : List ℕ} {g s at : ℕ} {h : Here} (can :
   -- the model's forest with the values made, and its list after the step
   abbrev valued : Forest
   valued =
-      makeFor (schemaOf schema) (groundIn g objects edges) (directionOf back) P
-      (s ∷ trekked schema edges objects g s h first .1)
-      (trekked schema edges objects g s h first .0)
+      makeFor S G (directionOf back) P
+      (s ∷ trekked schema edges objects root h first .1)
+      (trekked schema edges objects root h first .0)
 
   abbrev landed : List ℕ
-  landed = next (groundIn g objects edges) valued (directionOf back) P (s ∷ trekked schema edges objects g s h first .1)
+  landed = next G valued (directionOf back) P (s ∷ trekked schema edges objects root h first .1)
 
-  step-is : trekked schema edges objects g s h (pathAt view (suc at))
-      ≡ (walk (schemaOf schema) (groundIn g objects edges) landing s landed valued, landed)
-  step-is = ap (trekked schema edges objects g s h) (reads-step .0)
+  step-is : trekked schema edges objects root h (pathAt view (suc at))
+      ≡ (walk S G landing s landed valued, landed)
+  step-is = ap (trekked schema edges objects root h) (reads-step .0)
 
-  fits : size (groundIn g objects edges) (walk (schemaOf schema) (groundIn g objects edges) landing s landed valued) ≤ maxObjects
-  fits = subst (λ (x : Forest × List ℕ). size (groundIn g objects edges) (x .0) ≤ maxObjects) step-is (can .fits)
+  fits : size G (walk S G landing s landed valued) ≤ maxObjects
+  fits = subst (λ (x : Forest × List ℕ). size G (x .0) ≤ maxObjects) step-is (can .fits)
 
-  fits-valued : size (groundIn g objects edges) valued ≤ maxObjects
-  fits-valued = omega (arith, fits, walk-more (schemaOf schema) (groundIn g objects edges) landing s landed valued)
+  fits-valued : size G valued ≤ maxObjects
+  fits-valued = omega (arith, fits, walk-more S G landing s landed valued)
 
   places : h .count + suc (pathSteps first + conceptSteps landing) ≤ viewSteps
   places = subst (λ (p : Path). h .count + pathSteps p ≤ viewSteps) (reads-step .0) (can .places)
 
-  pub step-path : CanTrek schema view edges objects g s (startOf view at 1) h
+  pub step-path : CanTrek schema view edges objects root (startOf view at 1) h
   step-path =
       record {
         walking = earlier (can .walking) (startOf view at 1) (omega (arith, start-le view at 1));
@@ -242,9 +255,9 @@ module _ {schema view edges objects : List ℕ} {g s at : ℕ} {h : Here} (can :
             omega (
               arith,
               fits-valued,
-              makeFor-more (schemaOf schema) (groundIn g objects edges) (directionOf back) P
-                  (s ∷ trekked schema edges objects g s h first .1)
-                  (trekked schema edges objects g s h first .0),
+              makeFor-more S G (directionOf back) P
+                  (s ∷ trekked schema edges objects root h first .1)
+                  (trekked schema edges objects root h first .0),
             );
         places = omega (arith, places);
       }
@@ -253,7 +266,7 @@ module _ {schema view edges objects : List ℕ} {g s at : ℕ} {h : Here} (can :
   attribute = step-attribute schema view (can .walking .sound) (can .walking .legal) at P back (omega (arith, can .walking .within)) is
 
   -- after the path
-  module _ {q : Here} {a : List ℕ} (x : Trekked schema view edges objects g s (startOf view at 1) h a q) where
+  module _ {q : Here} {a : List ℕ} (x : Trekked schema view edges objects root (startOf view at 1) h a q) where
     -- its list is short
     short : q .count ≤ h .count + pathSteps first
     short =
@@ -262,11 +275,11 @@ module _ {schema view edges objects : List ℕ} {g s at : ℕ} {h : Here} (can :
           listed (x .stands),
           ap length (x .list),
           listed (can .walking .stands),
-          trek-size (schemaOf schema) (groundIn g objects edges) first s (standing h) (forestIn g (h .size) objects) (h .count)
+          trek-size S G first s (standing h) (forestIn g (h .size) objects) (h .count)
               (omega (arith, listed (can .walking .stands))) .1,
         )
 
-    pub step-make : CanMakeFor schema edges a g back P s q
+    pub step-make : CanMakeFor schema edges a root back P q
     step-make =
         record {
           legal = can .walking .legal;
@@ -278,23 +291,23 @@ module _ {schema view edges objects : List ℕ} {g s at : ℕ} {h : Here} (can :
               omega (
                 arith,
                 fits-valued,
-                same-size edges (λ H U. makeFor (schemaOf schema) H (directionOf back) P (s ∷ standing q) U) (x .grows),
+                same-size edges (λ H U. makeFor S H (directionOf back) P (s ∷ standing q) U) (x .grows),
                 ap
-                    (λ (l : List ℕ). size (groundIn g objects edges)
-                    (makeFor (schemaOf schema) (groundIn g objects edges) (directionOf back) P (s ∷ l)
-                    (trekked schema edges objects g s h first .0))) (x .list),
+                    (λ (l : List ℕ). size G
+                    (makeFor S G (directionOf back) P (s ∷ l)
+                    (trekked schema edges objects root h first .0))) (x .list),
               );
         }
 
     -- after the values were made
-    module _ {n : ℕ} {b : List ℕ} (made : Grows g (q .size) n a b (madeFor schema edges a g back P s q)) where
+    module _ {n : ℕ} {b : List ℕ} (made : Grows g (q .size) n a b (madeFor schema edges a root back P q)) where
       sofar : Grows g (h .size) n objects b valued
       sofar =
           subst
           (λ (l : List ℕ). Grows g (h .size) n objects b
-          (makeFor (schemaOf schema) (groundIn g objects edges) (directionOf back) P (s ∷ l)
-          (trekked schema edges objects g s h first .0))) (x .list)
-          (grows-then edges (λ H U. makeFor (schemaOf schema) H (directionOf back) P (s ∷ standing q) U) (x .grows) made)
+          (makeFor S G (directionOf back) P (s ∷ l)
+          (trekked schema edges objects root h first .0))) (x .list)
+          (grows-then edges (λ H U. makeFor S H (directionOf back) P (s ∷ standing q) U) (x .grows) made)
 
       pub step-next : Kept g n b × (P < maxAttributes) × (s < n) × Stands (grown q n) × (q .count < maxPlaces)
       step-next = (
@@ -306,20 +319,20 @@ module _ {schema view edges objects : List ℕ} {g s at : ℕ} {h : Here} (can :
       )
 
       -- after the list was made
-      module _ {w : Here} (f : Follows g b back P s (grown q n) w) where
+      module _ {w : Here} (f : Follows root b back P (grown q n) w) where
         list-is : standing w ≡ landed
         list-is =
             f .list edges
             ∙ ap₂ (λ (H : Ground) (U : Forest). next H U (directionOf back) P (s ∷ standing q))
             (ground-kept g b objects edges (sofar .ground)) (sofar .value)
-            ∙ ap (λ (l : List ℕ). next (groundIn g objects edges) valued (directionOf back) P (s ∷ l)) (x .list)
+            ∙ ap (λ (l : List ℕ). next G valued (directionOf back) P (s ∷ l)) (x .list)
 
-        landing-is : walked schema edges b g s w landing
-            ≡ walk (schemaOf schema) (groundIn g b edges) landing s landed (forestIn g n b)
+        landing-is : walked schema edges b root w landing
+            ≡ walk S (groundIn g b edges) landing s landed (forestIn g n b)
         landing-is =
-            ap₂ (λ (l : List ℕ) (k : ℕ). walk (schemaOf schema) (groundIn g b edges) landing s l (forestIn g k b)) list-is (f .size)
+            ap₂ (λ (l : List ℕ) (k : ℕ). walk S (groundIn g b edges) landing s l (forestIn g k b)) list-is (f .size)
 
-        pub step-walk : CanWalk schema view edges b g s at w
+        pub step-walk : CanWalk schema view edges b root at w
         step-walk =
             record {
               walking = earlier (later (can .walking) sofar w (f .size) (f .stands)) at (omega arith);
@@ -328,67 +341,67 @@ module _ {schema view edges objects : List ℕ} {g s at : ℕ} {h : Here} (can :
                   omega (
                     arith,
                     ap (size (groundIn g b edges)) landing-is,
-                    same-size edges (λ H U. walk (schemaOf schema) H landing s landed U) sofar,
+                    same-size edges (λ H U. walk S H landing s landed U) sofar,
                     fits,
                   );
               places = omega (arith, f .more, short, places);
             }
 
-        pub step-trekked : {r : ℕ} {last : List ℕ} → Walked schema view edges b g s at w last r
-            → Trekked schema view edges objects g s (suc at) h last (grown w r)
+        pub step-trekked : {r : ℕ} {last : List ℕ} → Walked schema view edges b root at w last r
+            → Trekked schema view edges objects root (suc at) h last (grown w r)
         step-trekked {r} {last} y =
-            let z : Grows g n r b last (walk (schemaOf schema) (groundIn g b edges) landing s landed (forestIn g n b))
-            = subst (Grows g n r b last) landing-is (subst (λ (k : ℕ). Grows g k r b last (walked schema edges b g s w landing)) (f .size) y) in
+            let z : Grows g n r b last (walk S (groundIn g b edges) landing s landed (forestIn g n b))
+            = subst (Grows g n r b last) landing-is (subst (λ (k : ℕ). Grows g k r b last (walked schema edges b root w landing)) (f .size) y) in
             record {
               grows =
                   subst (λ (t : Forest × List ℕ). Grows g (h .size) r objects last (t .0)) (sym step-is)
-                  (grows-then edges (λ H U. walk (schemaOf schema) H landing s landed U) sofar z);
+                  (grows-then edges (λ H U. walk S H landing s landed U) sofar z);
               list = list-is ∙ sym (ap (λ (t : Forest × List ℕ). t .1) step-is);
               stands = stands-grown (f .stands) (y .more);
             }
 
 -- The token before the end of an item.
-module _ {schema view edges objects : List ℕ} {g s e : ℕ} {h : Here} where
-  module _ (can : CanWalk schema view edges objects g s e h) where
+module _ {schema view edges objects : List ℕ} {root : Root} {e : ℕ} {h : Here} where
+  module _ (can : CanWalk schema view edges objects root e h) where
     pub walk-after : e ≡ suc (e - 1)
     walk-after = concept-next view e (can .item)
 
     pub walk-short : e < 2 ^ 16
     walk-short = view-short schema view (can .walking .sound) e (can .walking .within)
 
-    pub walk-from : CanWalk schema view edges objects g s (suc (e - 1)) h
-    walk-from = subst (λ (d : ℕ). CanWalk schema view edges objects g s d h) walk-after can
+    pub walk-from : CanWalk schema view edges objects root (suc (e - 1)) h
+    walk-from = subst (λ (d : ℕ). CanWalk schema view edges objects root d h) walk-after can
 
-    pub walk-to : {r : ℕ} {after : List ℕ} → Walked schema view edges objects g s (suc (e - 1)) h after r
-        → Walked schema view edges objects g s e h after r
-    walk-to {r} {after} y = subst (λ (d : ℕ). Walked schema view edges objects g s d h after r) (sym walk-after) y
+    pub walk-to : {r : ℕ} {after : List ℕ} → Walked schema view edges objects root (suc (e - 1)) h after r
+        → Walked schema view edges objects root e h after r
+    walk-to {r} {after} y = subst (λ (d : ℕ). Walked schema view edges objects root d h after r) (sym walk-after) y
 
-    pub walk-leaf : OneOf leaf-tags (tagOf the-type (tokenAt view (e - 1))) → Walked schema view edges objects g s e h objects (h .size)
+    pub walk-leaf : OneOf leaf-tags (tagOf the-type (tokenAt view (e - 1))) → Walked schema view edges objects root e h objects (h .size)
     walk-leaf k =
         walk-to
         (grows-self (can .walking .kept)
         (sym
-        (leaf-walk (schemaOf schema) (groundIn g objects edges) view (e - 1) s (standing h) (forestIn g (h .size) objects)
+        (leaf-walk (schemaOf schema) (groundIn (root .ground) objects edges) view (e - 1) (root .start) (standing h) (forestIn (root .ground) (h .size) objects)
         (tokenAt view (e - 1)) k (concept-token view e (can .item) refl))))
 
-  module _ (can : CanTrek schema view edges objects g s e h) where
+  module _ (can : CanTrek schema view edges objects root e h) where
     pub trek-after : e ≡ suc (e - 1)
     trek-after = path-next view e (can .item)
 
     pub trek-short : e < 2 ^ 16
     trek-short = view-short schema view (can .walking .sound) e (can .walking .within)
 
-    pub trek-from : CanTrek schema view edges objects g s (suc (e - 1)) h
-    trek-from = subst (λ (d : ℕ). CanTrek schema view edges objects g s d h) trek-after can
+    pub trek-from : CanTrek schema view edges objects root (suc (e - 1)) h
+    trek-from = subst (λ (d : ℕ). CanTrek schema view edges objects root d h) trek-after can
 
-    pub trek-to : {r : Here} {after : List ℕ} → Trekked schema view edges objects g s (suc (e - 1)) h after r
-        → Trekked schema view edges objects g s e h after r
-    trek-to {r} {after} y = subst (λ (d : ℕ). Trekked schema view edges objects g s d h after r) (sym trek-after) y
+    pub trek-to : {r : Here} {after : List ℕ} → Trekked schema view edges objects root (suc (e - 1)) h after r
+        → Trekked schema view edges objects root e h after r
+    trek-to {r} {after} y = subst (λ (d : ℕ). Trekked schema view edges objects root d h after r) (sym trek-after) y
 
-    pub trek-leaf : tokenAt view (e - 1) ≡ Empty → Trekked schema view edges objects g s e h objects h
+    pub trek-leaf : tokenAt view (e - 1) ≡ Empty → Trekked schema view edges objects root e h objects h
     trek-leaf is =
-        let q : trekked schema edges objects g s h (pathAt view (suc (e - 1))) ≡ trekked schema edges objects g s h empty
-        = ap (trekked schema edges objects g s h) (path-token view e (can .item) is .0) in
+        let q : trekked schema edges objects root h (pathAt view (suc (e - 1))) ≡ trekked schema edges objects root h empty
+        = ap (trekked schema edges objects root h) (path-token view e (can .item) is .0) in
         trek-to
         (record {
           grows = grows-self (can .walking .kept) (sym (ap (λ (x : Forest × List ℕ). x .0) q));

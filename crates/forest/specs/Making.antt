@@ -11,6 +11,7 @@ use Rattle.chase.specs.Axioms.{collect, needsBy}
 use Rattle.chase.specs.Loops.{each}
 use Rattle.chase.specs.Forest.{Forest, size, make}
 use Rattle.ground.specs.Objects.{forestIn, groundIn}
+use Rattle.forest.specs.declared.places.Root.{Root}
 use Rattle.forest.specs.declared.places.Here.{Here}
 use Rattle.forest.specs.Kept.{Kept}
 use Rattle.forest.specs.Places.{Stands, madeFor}
@@ -38,10 +39,10 @@ pub record CanMakeAll (schema edges objects : List ℕ) (g n mask P : ℕ) (l : 
   pub inside : (i : ℕ) → i < length l → getD l i 0 < n
   pub fits : size (groundIn g objects edges) (madeAll schema edges objects g n P l) ≤ maxObjects
 
-pub record CanMakeFor (schema edges objects : List ℕ) (g : ℕ) (back : Bool) (P s : ℕ) (h : Here) : Type 0 where
+pub record CanMakeFor (schema edges objects : List ℕ) (root : Root) (back : Bool) (P : ℕ) (h : Here) : Type 0 where
   pub legal : AcceptedSchema schema
-  pub kept : Kept g (h .size) objects
+  pub kept : Kept (root .ground) (h .size) objects
   pub attribute : P < maxAttributes
-  pub start : s < h .size
+  pub start : root .start < h .size
   pub stands : Stands h
-  pub fits : size (groundIn g objects edges) (madeFor schema edges objects g back P s h) ≤ maxObjects
+  pub fits : size (groundIn (root .ground) objects edges) (madeFor schema edges objects root back P h) ≤ maxObjects

@@ -9,6 +9,7 @@ use Rattle.records.specs.Layout.{viewSteps}
 use Rattle.records.specs.SchemaRecord.{schemaOf}
 use Rattle.chase.specs.Forest.{Forest, push, hop, next, makeFor}
 use Rattle.ground.specs.Objects.{forestIn, groundIn}
+use Rattle.forest.specs.declared.places.Root.{Root}
 use Rattle.forest.specs.declared.places.Here.{Here}
 
 abbrev pub maxPlaces : ℕ
@@ -44,14 +45,16 @@ pub record Hopped (g n : ℕ) (objects : List ℕ) (back : Bool) (P d r : ℕ) :
   pub inside : r ≤ n
 
 -- r has the list after the step
-pub record Follows (g : ℕ) (objects : List ℕ) (back : Bool) (P s : ℕ) (h r : Here) : Type 0 where
+pub record Follows (root : Root) (objects : List ℕ) (back : Bool) (P : ℕ) (h r : Here) : Type 0 where
   pub list : (edges : List ℕ)
-      → standing r ≡ next (groundIn g objects edges) (forestIn g (h .size) objects) (directionOf back) P (s ∷ standing h)
+      → standing r
+      ≡ next (groundIn (root .ground) objects edges) (forestIn (root .ground) (h .size) objects) (directionOf back) P (root .start ∷ standing h)
   pub stands : Stands r
   pub size : r .size ≡ h .size
   pub more : r .count ≤ h .count + 1
 
--- the values that s and those on the list lack before a step
-abbrev pub madeFor : List ℕ → List ℕ → List ℕ → ℕ → Bool → ℕ → ℕ → Here → Forest
-madeFor schema edges objects g back P s h =
-    makeFor (schemaOf schema) (groundIn g objects edges) (directionOf back) P (s ∷ standing h) (forestIn g (h .size) objects)
+-- the values that the start and those on the list lack before a step
+abbrev pub madeFor : List ℕ → List ℕ → List ℕ → Root → Bool → ℕ → Here → Forest
+madeFor schema edges objects root back P h =
+    makeFor (schemaOf schema) (groundIn (root .ground) objects edges) (directionOf back) P (root .start ∷ standing h)
+    (forestIn (root .ground) (h .size) objects)

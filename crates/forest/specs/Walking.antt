@@ -14,48 +14,49 @@ use Rattle.records.specs.Helpers.Reading.{conceptAt, pathAt, HasConcept, HasPat
 use Rattle.chase.specs.Forest.{Forest, size, walk, trek, walks}
 use Rattle.chase.specs.Bounds.{maxForest}
 use Rattle.ground.specs.Objects.{forestIn, groundIn}
+use Rattle.forest.specs.declared.places.Root.{Root}
 use Rattle.forest.specs.declared.places.Here.{Here}
 use Rattle.forest.specs.Kept.{Kept, Grows}
 use Rattle.forest.specs.Places.{standing, Stands}
 
 -- the records, the objects and the list are in order, and e is a place of the view
-pub record Walking (schema view objects : List ℕ) (g s e : ℕ) (h : Here) : Type 0 where
+pub record Walking (schema view objects : List ℕ) (root : Root) (e : ℕ) (h : Here) : Type 0 where
   pub legal : AcceptedSchema schema
   pub sound : AcceptedConcept viewSteps (signatureOf schema) view
   pub within : e ≤ entries conceptLayout view
-  pub kept : Kept g (h .size) objects
-  pub start : s < h .size
+  pub kept : Kept (root .ground) (h .size) objects
+  pub start : root .start < h .size
   pub stands : Stands h
 
--- the model's walk from s
-module _ (schema edges objects : List ℕ) (g s : ℕ) (h : Here) where
+-- the model's walk from the start
+module _ (schema edges objects : List ℕ) (root : Root) (h : Here) where
   abbrev pub walked : Concept → Forest
-  walked C = walk (schemaOf schema) (groundIn g objects edges) C s (standing h) (forestIn g (h .size) objects)
+  walked C = walk (schemaOf schema) (groundIn (root .ground) objects edges) C (root .start) (standing h) (forestIn (root .ground) (h .size) objects)
 
   abbrev pub trekked : Path → Forest × List ℕ
-  trekked p = trek (schemaOf schema) (groundIn g objects edges) p s (standing h) (forestIn g (h .size) objects)
+  trekked p = trek (schemaOf schema) (groundIn (root .ground) objects edges) p (root .start) (standing h) (forestIn (root .ground) (h .size) objects)
 
 -- there is room for what it makes
-pub record CanWalk (schema view edges objects : List ℕ) (g s e : ℕ) (h : Here) : Type 0 where
-  pub walking : Walking schema view objects g s e h
+pub record CanWalk (schema view edges objects : List ℕ) (root : Root) (e : ℕ) (h : Here) : Type 0 where
+  pub walking : Walking schema view objects root e h
   pub item : HasConcept view e
-  pub fits : size (groundIn g objects edges) (walked schema edges objects g s h (conceptAt view e)) ≤ maxObjects
+  pub fits : size (groundIn (root .ground) objects edges) (walked schema edges objects root h (conceptAt view e)) ≤ maxObjects
   pub places : h .count + conceptSteps (conceptAt view e) ≤ viewSteps
 
-pub record CanTrek (schema view edges objects : List ℕ) (g s e : ℕ) (h : Here) : Type 0 where
-  pub walking : Walking schema view objects g s e h
+pub record CanTrek (schema view edges objects : List ℕ) (root : Root) (e : ℕ) (h : Here) : Type 0 where
+  pub walking : Walking schema view objects root e h
   pub item : HasPath view e
-  pub fits : size (groundIn g objects edges) (trekked schema edges objects g s h (pathAt view e) .0) ≤ maxObjects
+  pub fits : size (groundIn (root .ground) objects edges) (trekked schema edges objects root h (pathAt view e) .0) ≤ maxObjects
   pub places : h .count + pathSteps (pathAt view e) ≤ viewSteps
 
 -- what it leaves
-abbrev pub Walked : List ℕ → List ℕ → List ℕ → List ℕ → ℕ → ℕ → ℕ → Here → List ℕ → ℕ → Type 0
-Walked schema view edges objects g s e h after r =
-    Grows g (h .size) r objects after (walked schema edges objects g s h (conceptAt view e))
+abbrev pub Walked : List ℕ → List ℕ → List ℕ → List ℕ → Root → ℕ → Here → List ℕ → ℕ → Type 0
+Walked schema view edges objects root e h after r =
+    Grows (root .ground) (h .size) r objects after (walked schema edges objects root h (conceptAt view e))
 
-pub record Trekked (schema view edges objects : List ℕ) (g s e : ℕ) (h : Here) (after : List ℕ) (r : Here) : Type 0 where
-  pub grows : Grows g (h .size) (r .size) objects after (trekked schema edges objects g s h (pathAt view e) .0)
-  pub list : standing r ≡ trekked schema edges objects g s h (pathAt view e) .1
+pub record Trekked (schema view edges objects : List ℕ) (root : Root) (e : ℕ) (h : Here) (after : List ℕ) (r : Here) : Type 0 where
+  pub grows : Grows (root .ground) (h .size) (r .size) objects after (trekked schema edges objects root h (pathAt view e) .0)
+  pub list : standing r ≡ trekked schema edges objects root h (pathAt view e) .1
   pub stands : Stands r
 
 -- the walks from all objects of the ground

@@ -4,6 +4,7 @@ use crate::objects::classes_at;
 use crate::objects::lacks;
 use crate::objects::word;
 use crate::places::Here;
+use crate::places::Root;
 use classes::closure::image;
 use classes::collect::needs_mask;
 use records::layout::wide;
@@ -64,24 +65,25 @@ fn make_all(
     size
 }
 
-// Before a forward step the object s and those on the list get the values that they lack.
+// Before a forward step the start and those on the list get the values that they lack.
 pub fn make_for(
     schema: &[u16],
     edges: &[u16],
-    g: usize,
+    root: Root,
     attribute: usize,
     backward: bool,
-    s: usize,
     here: Here,
     objects: &mut [u64; OBJECTS],
 ) -> usize
-    requires { ⌜ CanMakeFor (now schema) (now edges) (now objects) g backward attribute s here ⌝ }
-    ensures { λ r. ⌜ Grows g (here .size) r (now (objects .entry)) (now (objects .exit)) (madeFor (now (schema .entry)) (now (edges .entry)) (now (objects .entry)) g backward attribute s here) ⌝ }
+    requires { ⌜ CanMakeFor (now schema) (now edges) (now objects) root backward attribute here ⌝ }
+    ensures { λ r. ⌜ Grows (root .ground) (here .size) r (now (objects .entry)) (now (objects .exit)) (madeFor (now (schema .entry)) (now (edges .entry)) (now (objects .entry)) root backward attribute here) ⌝ }
 {
     if backward {
         return here.size;
     }
     let mask = needs_mask(schema, attribute);
+    let g = root.ground;
+    let s = root.start;
     let n = make(schema, edges, g, here.size, mask, attribute, s, objects);
     let at = here.at;
     let count = here.count;

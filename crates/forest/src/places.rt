@@ -1,4 +1,4 @@
-// Where the walk stands: how many objects there are, and which made objects are at the present place of the view.
+// Where a walk of the view starts and stands, and where a step leads.
 use crate::objects::OBJECTS;
 use crate::objects::kid;
 use crate::objects::parent;
@@ -13,6 +13,13 @@ ghost use Rattle.forest.specs.Places.{maxPlaces, Stands, Begins, Hopped,
 // Each step leaves at most one made object more on the list.
 const PLACES: usize = View::STEPS;
 
+// Where a walk starts: how many objects the ground has, and the one of them that the walk starts from.
+pub struct Root {
+    pub ground: usize,
+    pub start: usize,
+}
+
+// Where the walk stands: how many objects there are, and which made objects are at the present place of the view.
 pub struct Here {
     pub size: usize,
     pub count: usize,
@@ -64,25 +71,24 @@ fn hop(
     kid(objects, g, n, attribute, d)
 }
 
-// The made objects after a step from s and from those on the list.
+// The made objects after a step from the start and from those on the list.
 pub fn next(
     objects: &[u64; OBJECTS],
-    g: usize,
+    root: Root,
     attribute: usize,
     backward: bool,
-    s: usize,
     here: Here,
 ) -> Here
-    requires { ⌜ Kept g (here .size) (now objects) × (attribute < maxAttributes) × (s < here .size) × Stands here × (here .count < maxPlaces) ⌝ }
-    ensures { λ r. ⌜ Follows g (now (objects .entry)) backward attribute s here r ⌝ }
+    requires { ⌜ Kept (root .ground) (here .size) (now objects) × (attribute < maxAttributes) × (root .start < here .size) × Stands here × (here .count < maxPlaces) ⌝ }
+    ensures { λ r. ⌜ Follows root (now (objects .entry)) backward attribute here r ⌝ }
 {
     let at = here.at;
     let n = here.size;
     let none = begin(n);
-    let mut after = none.push(hop(objects, g, n, attribute, backward, s));
+    let mut after = none.push(hop(objects, root.ground, n, attribute, backward, root.start));
     let count = here.count;
     for i in 0..count {
-        let more = after.push(hop(objects, g, n, attribute, backward, wide(at[i])));
+        let more = after.push(hop(objects, root.ground, n, attribute, backward, wide(at[i])));
         after = more;
     }
     after

@@ -1,8 +1,9 @@
-// The walk of the view from object s of the ground, which has g objects, makes the values that the view's steps ask for. The
-// item that ends at a place is read at the token before it. Of two operands the earlier one is walked first.
+// The walk of the view from an object of the ground makes the values that the view's steps ask for. The item that ends at a
+// place is read at the token before it. Of two operands the earlier one is walked first.
 use crate::make::make_for;
 use crate::objects::OBJECTS;
 use crate::places::Here;
+use crate::places::Root;
 use crate::places::begin;
 use crate::places::next;
 use records::concept::Token;
@@ -28,25 +29,24 @@ fn walk(
     schema: &[u16],
     view: &[u16],
     edges: &[u16],
-    g: usize,
-    s: usize,
+    root: Root,
     end: usize,
     here: Here,
     objects: &mut [u64; OBJECTS],
 ) -> usize
-    requires { ⌜ CanWalk (now schema) (now view) (now edges) (now objects) g s end here ⌝ }
-    ensures { λ r. ⌜ Walked (now (schema .entry)) (now (view .entry)) (now (edges .entry)) (now (objects .entry)) g s end here (now (objects .exit)) r ⌝ }
+    requires { ⌜ CanWalk (now schema) (now view) (now edges) (now objects) root end here ⌝ }
+    ensures { λ r. ⌜ Walked (now (schema .entry)) (now (view .entry)) (now (edges .entry)) (now (objects .entry)) root end here (now (objects .exit)) r ⌝ }
 {
     let at = end - 1;
     match token_at(view, at) {
         // Nothing is made.
         Token::Class(_) | Token::Everything | Token::Constant(_) => here.size,
-        Token::Both => both(schema, view, edges, g, s, at, here, objects),
+        Token::Both => both(schema, view, edges, root, at, here, objects),
         Token::Reached => {
-            let there = trek(schema, view, edges, g, s, at, here, objects);
+            let there = trek(schema, view, edges, root, at, here, objects);
             there.size
         }
-        Token::Common => common(schema, view, edges, g, s, at, here, objects),
+        Token::Common => common(schema, view, edges, root, at, here, objects),
         // A path's tokens end no concept.
         Token::Empty | Token::Forward(_) | Token::Backward(_) => here.size,
     }
@@ -57,19 +57,18 @@ fn both(
     schema: &[u16],
     view: &[u16],
     edges: &[u16],
-    g: usize,
-    s: usize,
+    root: Root,
     at: usize,
     here: Here,
     objects: &mut [u64; OBJECTS],
 ) -> usize
-    requires { ⌜ CanWalk (now schema) (now view) (now edges) (now objects) g s (suc at) here × (tokenAt (now view) at ≡ Both) ⌝ }
-    ensures { λ r. ⌜ Walked (now (schema .entry)) (now (view .entry)) (now (edges .entry)) (now (objects .entry)) g s (suc at) here (now (objects .exit)) r ⌝ }
+    requires { ⌜ CanWalk (now schema) (now view) (now edges) (now objects) root (suc at) here × (tokenAt (now view) at ≡ Both) ⌝ }
+    ensures { λ r. ⌜ Walked (now (schema .entry)) (now (view .entry)) (now (edges .entry)) (now (objects .entry)) root (suc at) here (now (objects .exit)) r ⌝ }
 {
-    let n = walk(schema, view, edges, g, s, start_of(view, at), here, objects);
+    let n = walk(schema, view, edges, root, start_of(view, at), here, objects);
     let mut there = here;
     there.size = n;
-    walk(schema, view, edges, g, s, at, there, objects)
+    walk(schema, view, edges, root, at, there, objects)
 }
 
 // The two paths of a common object, whose token stands at `at`.
@@ -77,19 +76,18 @@ fn common(
     schema: &[u16],
     view: &[u16],
     edges: &[u16],
-    g: usize,
-    s: usize,
+    root: Root,
     at: usize,
     here: Here,
     objects: &mut [u64; OBJECTS],
 ) -> usize
-    requires { ⌜ CanWalk (now schema) (now view) (now edges) (now objects) g s (suc at) here × (tokenAt (now view) at ≡ Common) ⌝ }
-    ensures { λ r. ⌜ Walked (now (schema .entry)) (now (view .entry)) (now (edges .entry)) (now (objects .entry)) g s (suc at) here (now (objects .exit)) r ⌝ }
+    requires { ⌜ CanWalk (now schema) (now view) (now edges) (now objects) root (suc at) here × (tokenAt (now view) at ≡ Common) ⌝ }
+    ensures { λ r. ⌜ Walked (now (schema .entry)) (now (view .entry)) (now (edges .entry)) (now (objects .entry)) root (suc at) here (now (objects .exit)) r ⌝ }
 {
-    let first = trek(schema, view, edges, g, s, start_of(view, at), here, objects);
+    let first = trek(schema, view, edges, root, start_of(view, at), here, objects);
     let mut there = here;
     there.size = first.size;
-    let last = trek(schema, view, edges, g, s, at, there, objects);
+    let last = trek(schema, view, edges, root, at, there, objects);
     last.size
 }
 
@@ -98,20 +96,19 @@ fn trek(
     schema: &[u16],
     view: &[u16],
     edges: &[u16],
-    g: usize,
-    s: usize,
+    root: Root,
     end: usize,
     here: Here,
     objects: &mut [u64; OBJECTS],
 ) -> Here
-    requires { ⌜ CanTrek (now schema) (now view) (now edges) (now objects) g s end here ⌝ }
-    ensures { λ r. ⌜ Trekked (now (schema .entry)) (now (view .entry)) (now (edges .entry)) (now (objects .entry)) g s end here (now (objects .exit)) r ⌝ }
+    requires { ⌜ CanTrek (now schema) (now view) (now edges) (now objects) root end here ⌝ }
+    ensures { λ r. ⌜ Trekked (now (schema .entry)) (now (view .entry)) (now (edges .entry)) (now (objects .entry)) root end here (now (objects .exit)) r ⌝ }
 {
     let at = end - 1;
     match token_at(view, at) {
         Token::Empty => here,
-        Token::Forward(p) => step(schema, view, edges, g, s, at, p, false, here, objects),
-        Token::Backward(p) => step(schema, view, edges, g, s, at, p, true, here, objects),
+        Token::Forward(p) => step(schema, view, edges, root, at, p, false, here, objects),
+        Token::Backward(p) => step(schema, view, edges, root, at, p, true, here, objects),
         // A concept's tokens end no path.
         Token::Class(_)
         | Token::Everything
@@ -127,22 +124,21 @@ fn step(
     schema: &[u16],
     view: &[u16],
     edges: &[u16],
-    g: usize,
-    s: usize,
+    root: Root,
     at: usize,
     attribute: usize,
     backward: bool,
     here: Here,
     objects: &mut [u64; OBJECTS],
 ) -> Here
-    requires { ⌜ CanTrek (now schema) (now view) (now edges) (now objects) g s (suc at) here × (tokenAt (now view) at ≡ stepToken (directionOf backward) attribute) ⌝ }
-    ensures { λ r. ⌜ Trekked (now (schema .entry)) (now (view .entry)) (now (edges .entry)) (now (objects .entry)) g s (suc at) here (now (objects .exit)) r ⌝ }
+    requires { ⌜ CanTrek (now schema) (now view) (now edges) (now objects) root (suc at) here × (tokenAt (now view) at ≡ stepToken (directionOf backward) attribute) ⌝ }
+    ensures { λ r. ⌜ Trekked (now (schema .entry)) (now (view .entry)) (now (edges .entry)) (now (objects .entry)) root (suc at) here (now (objects .exit)) r ⌝ }
 {
-    let mut there = trek(schema, view, edges, g, s, start_of(view, at), here, objects);
-    let made = make_for(schema, edges, g, attribute, backward, s, there, objects);
+    let mut there = trek(schema, view, edges, root, start_of(view, at), here, objects);
+    let made = make_for(schema, edges, root, attribute, backward, there, objects);
     there.size = made;
-    let mut after = next(objects, g, attribute, backward, s, there);
-    let n = walk(schema, view, edges, g, s, at, after, objects);
+    let mut after = next(objects, root, attribute, backward, there);
+    let n = walk(schema, view, edges, root, at, after, objects);
     after.size = n;
     after
 }
@@ -160,8 +156,9 @@ pub fn walks(
 {
     let end = tokens(view);
     let mut n = g;
-    for s in 0..g {
-        n = walk(schema, view, edges, g, s, end, begin(n), objects);
+    for start in 0..g {
+        let root = Root { ground: g, start };
+        n = walk(schema, view, edges, root, end, begin(n), objects);
     }
     n
 }

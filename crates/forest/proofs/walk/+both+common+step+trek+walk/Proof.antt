@@ -33,19 +33,19 @@ use Rattle.forest.proofs.walk.+both+common+step+trek+walk.{statement}
 use Rattle.forest.proofs.walk.+both+common+step+trek+walk.Tie.{close}
 
 abbrev μ-both : Measures 4 both-kinds.ps ℕ
-μ-both κs a = suc (2 * a .1 .1 .1 .1 .1 .0)
+μ-both κs a = suc (2 * a .1 .1 .1 .1 .0)
 
 abbrev μ-common : Measures 4 common-kinds.ps ℕ
-μ-common κs a = suc (2 * a .1 .1 .1 .1 .1 .0)
+μ-common κs a = suc (2 * a .1 .1 .1 .1 .0)
 
 abbrev μ-step : Measures 4 step-kinds.ps ℕ
-μ-step κs a = suc (2 * a .1 .1 .1 .1 .1 .0)
+μ-step κs a = suc (2 * a .1 .1 .1 .1 .0)
 
 abbrev μ-trek : Measures 4 trek-kinds.ps ℕ
-μ-trek κs a = 2 * a .1 .1 .1 .1 .1 .0
+μ-trek κs a = 2 * a .1 .1 .1 .1 .0
 
 abbrev μ-walk : Measures 4 walk-kinds.ps ℕ
-μ-walk κs a = 2 * a .1 .1 .1 .1 .1 .0
+μ-walk κs a = 2 * a .1 .1 .1 .1 .0
 
 abbrev both-at : ℕ → In 4 both-kinds.ps
 both-at t = and 4 both-kinds.ps (is 4 both-kinds.ps μ-both t) both.Pre

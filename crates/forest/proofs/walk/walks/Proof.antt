@@ -29,8 +29,8 @@ begin-requires c κs = tt
 walk-requires : tie.Need-walk-requires Inv-loop μ-loop
 walk-requires c κs = round-walk (c .before .before .before .before .before .before .before .before .args .schema .now) (c .before .before .before .before .before .before .before .before .args .view .now) (c .before .before .before .before .before .before .before .before .args .edges .now) _ _ (c .before .before .before .before .before .before .before .before .pre .0) (c .before .before .before .before .before .before .before .before .pre .1) (c .before .before .before .before .before .before .before .before .pre .2) (c .before .before .before .before .before .before .before .before .pre .3) (c .before .before .loop-test .taken) (c .before .before .before .loop .inv .1) (c .before .begin .ensures) (c .before .before .before .before .tokens .ensures .value)
 
-add-s : tie.Need-add-s Inv-loop μ-loop
-add-s c = search needs
+add-start : tie.Need-add-start Inv-loop μ-loop
+add-start c = search needs
 
 loop-less : tie.Need-loop-less Inv-loop μ-loop
 loop-less c = search needs
@@ -51,7 +51,7 @@ walks-spec =
     loop-holds
     begin-requires
     walk-requires
-    add-s
+    add-start
     loop-less
     loop-again
     returns)
