@@ -20,6 +20,7 @@ use Rattle.chase.proofs.LoopLaws.{each-next}
 use Rattle.records.proofs.General.BoolLaws.{cond-elim}
 use Rattle.ground.specs.Objects.{link, objectWord, classesIn, makerIn, forestIn, groundIn}
 use Rattle.forest.specs.declared.places.Root.{Root}
+use Rattle.forest.specs.declared.places.Step.{Step}
 use Rattle.forest.specs.declared.places.Here.{Here}
 use Rattle.forest.specs.Kept.{Kept, Grows}
 use Rattle.forest.specs.Places.{standing, Stands, madeFor}
@@ -188,8 +189,8 @@ pub listed : {h : Here} → Stands h → h .count ≡ length (standing h)
 listed {h} stands = sym (length-take-le (h .count) (h .at) (omega (arith, stands .few, stands .room)))
 
 -- the values of the start and of those on the list where the walk stands
-module _ {schema edges objects : List ℕ} {root : Root} {P : ℕ} {h : Here} (back : Bool) (q : back ≡ false)
-    (can : CanMakeFor schema edges objects root back P h) where
+module _ {schema edges objects : List ℕ} {root : Root} {step : Step} {h : Here} (q : step .backward ≡ false)
+    (can : CanMakeFor schema edges objects root step h) where
   abbrev S : Schema
   S = schemaOf schema
 
@@ -199,10 +200,13 @@ module _ {schema edges objects : List ℕ} {root : Root} {P : ℕ} {h : Here} (b
   abbrev s : ℕ
   s = root .start
 
+  abbrev P : ℕ
+  P = step .attribute
+
   abbrev G : Ground
   G = groundIn g objects edges
 
-  all-of : madeFor schema edges objects root back P h
+  all-of : madeFor schema edges objects root step h
       ≡ each (make S G P) (standing h) (madeAt schema edges objects g (h .size) P s)
   unfolding each makeFor
   all-of =
@@ -251,15 +255,20 @@ module _ {schema edges objects : List ℕ} {root : Root} {P : ℕ} {h : Here} (b
         }
 
     pub made-for : (r : ℕ) (last : List ℕ) → Grows g n r after last (madeAll schema edges after g n P (standing h))
-        → Grows g (h .size) r objects last (madeFor schema edges objects root back P h)
+        → Grows g (h .size) r objects last (madeFor schema edges objects root step h)
     made-for r last y =
         subst (Grows g (h .size) r objects last) (sym all-of)
         (grows-then edges (λ H T. each (make S H P) (standing h) T) so y)
 
 -- nothing is made before a backward step
-pub made-back : {schema edges objects : List ℕ} {root : Root} {P : ℕ} {h : Here} (back : Bool) → back ≡ true
-    → CanMakeFor schema edges objects root back P h
-    → Grows (root .ground) (h .size) (h .size) objects objects (madeFor schema edges objects root back P h)
+pub made-back : {schema edges objects : List ℕ} {root : Root} {step : Step} {h : Here} → step .backward ≡ true
+    → CanMakeFor schema edges objects root step h
+    → Grows (root .ground) (h .size) (h .size) objects objects (madeFor schema edges objects root step h)
 unfolding makeFor
-made-back false q can = absurd (false≢true q)
-made-back true q can = grows-self (can .kept) refl
+made-back {schema} {edges} {objects} {root} {step} {h} q can =
+    grows-self (can .kept)
+    (sym
+    (ap
+    (λ (b : Bool). makeFor (schemaOf schema) (groundIn (root .ground) objects edges) (directionOf b) (step .attribute) (root .start ∷ standing h)
+    (forestIn (root .ground) (h .size) objects))
+    q))

@@ -3,7 +3,7 @@ use Prim.Native.Nat.{ℕ, zero, suc, _+_, _-_, _≤_, _<_}
 use native.Mathlib.Omega.{arith}
 use native.Mathlib.Decide.{decLt, ℕ-discrete}
 use native.Mathlib.Numerals.{add-one}
-use mathlib.Core.Bool.{Bool, true, false, false≢true}
+use mathlib.Core.Bool.{Bool, true, false}
 use mathlib.Core.List.{List, [], _∷_, _++_, append-nil}
 use mathlib.Core.Path.{_≡_, refl, sym, ap, ap₂, subst, _∙_}
 use lib.Dec.{eqb}
@@ -16,9 +16,10 @@ use Rattle.records.proofs.General.BoolLaws.{cond-elim}
 use Rattle.chase.proofs.ForestLaws.{kid-bound}
 use Rattle.ground.specs.Objects.{attributeIn, forestIn, groundIn}
 use Rattle.forest.specs.declared.places.Root.{Root}
+use Rattle.forest.specs.declared.places.Step.{Step}
 use Rattle.forest.specs.declared.places.Here.{Here}
 use Rattle.forest.specs.Kept.{Kept}
-use Rattle.forest.specs.Places.{maxPlaces, standing, Stands, Begins, Pushed, Hopped, Follows}
+use Rattle.forest.specs.Places.{maxPlaces, standing, Stands, Begins, Pushed, heading, hopBy, nextBy, Hopped, Follows}
 use Rattle.forest.proofs.ObjectLaws.{size-laid, parent-made, parent-ground}
 
 -- an object comes to the end of the list, or none
@@ -61,30 +62,41 @@ module _ (h : Here) (k : ℕ) (stands : Stands h) where
       }
 
 -- where a step leads is an object that is there
-module _ {g n : ℕ} {objects : List ℕ} (kept : Kept g n objects) (P d r : ℕ) (h : d < n) where
-  pub hopped-ahead : (back : Bool) → back ≡ false → ((edges : List ℕ) → r ≡ kid (groundIn g objects edges) (forestIn g n objects) P d)
-      → Hopped g n objects back P d r
-  hopped-ahead false q k =
-      record {
-        value = k;
-        inside = omega (arith, k [], kid-bound (groundIn g objects []) (forestIn g n objects) P d, size-laid g n objects (kept .laid) objects []);
-      }
-  hopped-ahead true q k = absurd (false≢true (sym q))
+module _ {g n : ℕ} {objects : List ℕ} (kept : Kept g n objects) (step : Step) (d r : ℕ) (h : d < n) where
+  hopped-as : (b : Bool) → step .backward ≡ b
+      → ((edges : List ℕ) → r ≡ hop (groundIn g objects edges) (forestIn g n objects) (directionOf b) (step .attribute) d)
+      → (edges : List ℕ) → r ≡ hopBy step (groundIn g objects edges) (forestIn g n objects) d
+  hopped-as b q k edges =
+      k edges ∙ ap (λ (c : Bool). hop (groundIn g objects edges) (forestIn g n objects) (directionOf c) (step .attribute) d) (sym q)
 
-  pub hopped-back : (back : Bool) → back ≡ true
-      → ((edges : List ℕ) → r ≡ parent (groundIn g objects edges) (forestIn g n objects) P d)
-      → Hopped g n objects back P d r
-  hopped-back false q k = absurd (false≢true q)
-  hopped-back true q k =
+  pub hopped-ahead : step .backward ≡ false
+      → ((edges : List ℕ) → r ≡ kid (groundIn g objects edges) (forestIn g n objects) (step .attribute) d)
+      → Hopped g n objects step d r
+  hopped-ahead q k =
       record {
-        value = k;
+        value = hopped-as false q k;
+        inside =
+            omega (
+              arith,
+              k [],
+              kid-bound (groundIn g objects []) (forestIn g n objects) (step .attribute) d,
+              size-laid g n objects (kept .laid) objects [],
+            );
+      }
+
+  pub hopped-back : step .backward ≡ true
+      → ((edges : List ℕ) → r ≡ parent (groundIn g objects edges) (forestIn g n objects) (step .attribute) d)
+      → Hopped g n objects step d r
+  hopped-back q k =
+      record {
+        value = hopped-as true q k;
         inside =
             elim (decLt d g) [
-              | yes y ↦ omega (arith, k [], parent-ground (groundIn g objects []) (forestIn g n objects) P d y)
+              | yes y ↦ omega (arith, k [], parent-ground (groundIn g objects []) (forestIn g n objects) (step .attribute) d y)
               | no z ↦
-                  cond-elim (λ v. r ≡ v → r ≤ n) (eqb (attributeIn (getD objects d 0)) P)
+                  cond-elim (λ v. r ≡ v → r ≤ n) (eqb (attributeIn (getD objects d 0)) (step .attribute))
                   (λ _ e. omega (arith, e, kept .makers d (omega arith) h)) (λ _ e. omega (arith, e))
-                  (k [] ∙ parent-made g n objects (kept .laid) objects [] P d (omega arith) h)
+                  (k [] ∙ parent-made g n objects (kept .laid) objects [] (step .attribute) d (omega arith) h)
             ];
       }
 
@@ -104,16 +116,18 @@ module _ (G : Ground) (T : Forest) (r : Direction) (P : ℕ) where
   next-more s l i h =
       ap (λ (m : List ℕ). next G T r P (s ∷ m)) (take-suc l i 0 h) ∙ next-append (s ∷ take i l) (getD l i 0 ∷ [])
 
-module _ (root : Root) (objects : List ℕ) (back : Bool) (P : ℕ) where
+module _ (root : Root) (objects : List ℕ) (step : Step) where
   -- after the first i of the list
   pub record After (n : ℕ) (l : List ℕ) (i : ℕ) (r : Here) : Type 0 where
     pub list : (edges : List ℕ)
-        → standing r ≡ next (groundIn (root .ground) objects edges) (forestIn (root .ground) n objects) (directionOf back) P (root .start ∷ take i l)
+        → standing r ≡ nextBy step (groundIn (root .ground) objects edges) (forestIn (root .ground) n objects) (root .start ∷ take i l)
     pub stands : Stands r
     pub size : r .size ≡ n
     pub more : r .count ≤ i + 1
 
-  pub after-none : {n k : ℕ} {b r : Here} (l : List ℕ) → Begins n b → Hopped (root .ground) n objects back P (root .start) k → Pushed b k r → After n l 0 r
+  pub after-none : {n k : ℕ} {b r : Here} (l : List ℕ) → Begins n b → Hopped (root .ground) n objects step (root .start) k
+      → Pushed b k r
+      → After n l 0 r
   after-none {n} {k} {b} {r} l begins hopped pushed =
       record {
         list = λ edges.
@@ -124,7 +138,7 @@ module _ (root : Root) (objects : List ℕ) (back : Bool) (P : ℕ) where
       }
 
   pub after-more : {h b r : Here} {k d : ℕ} (i : ℕ) → Stands h → i < h .count → d ≡ getD (h .at) i 0
-      → After (h .size) (standing h) i b → Hopped (root .ground) (h .size) objects back P d k → Pushed b k r
+      → After (h .size) (standing h) i b → Hopped (root .ground) (h .size) objects step d k → Pushed b k r
       → After (h .size) (standing h) (i + 1) r
   after-more {h} {b} {r} {k} {d} i stands l e after hopped pushed =
       let long : length (standing h) ≡ h .count
@@ -134,21 +148,21 @@ module _ (root : Root) (objects : List ℕ) (back : Bool) (P : ℕ) where
             let G = groundIn (root .ground) objects edges in
             let T = forestIn (root .ground) (h .size) objects in
             pushed .list ∙ ap₂ (λ (m : List ℕ) (j : ℕ). m ++ push j []) (after .list edges) (hopped .value edges)
-            ∙ ap (λ (j : ℕ). next G T (directionOf back) P (root .start ∷ take i (standing h)) ++ push (hop G T (directionOf back) P j) [])
+            ∙ ap (λ (j : ℕ). nextBy step G T (root .start ∷ take i (standing h)) ++ push (hopBy step G T j) [])
             (e ∙ sym (getD-take (h .count) (h .at) i 0 l))
-            ∙ rw add-one (sym (next-more G T (directionOf back) P (root .start) (standing h) i (omega (arith, long))));
+            ∙ rw add-one (sym (next-more G T (heading step) (step .attribute) (root .start) (standing h) i (omega (arith, long))));
         stands = pushed .stands;
         size = pushed .size ∙ after .size;
         more = omega (arith, pushed .more, after .more);
       }
 
   pub after-all : {h r : Here} (i : ℕ) → Stands h → i ≤ h .count → h .count ≤ i
-      → After (h .size) (standing h) i r → Follows root objects back P h r
+      → After (h .size) (standing h) i r → Follows root objects step h r
   after-all {h} {r} i stands a b after =
       record {
         list = λ edges.
             after .list edges
-            ∙ ap (λ (m : List ℕ). next (groundIn (root .ground) objects edges) (forestIn (root .ground) (h .size) objects) (directionOf back) P (root .start ∷ m))
+            ∙ ap (λ (m : List ℕ). nextBy step (groundIn (root .ground) objects edges) (forestIn (root .ground) (h .size) objects) (root .start ∷ m))
             (take-all i (standing h)
             (omega (arith, length-take-le (h .count) (h .at) (omega (arith, stands .few, stands .room)))));
         stands = after .stands;

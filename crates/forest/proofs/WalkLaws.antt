@@ -2,7 +2,6 @@
 -- and nothing is taken back, and what they leave makes what the whole leaves.
 use Prim.Native.Nat.{ℕ, suc, _+_, _-_, _≤_, _<_, _^_}
 use native.Mathlib.Omega.{arith}
-use mathlib.Core.Bool.{Bool}
 use mathlib.Core.List.{List, _∷_}
 use mathlib.Core.Path.{_≡_, refl, sym, ap, ap₂, subst, _∙_}
 use lib.ListN.{length}
@@ -10,7 +9,7 @@ use types.Run.{OneOf}
 use denote.Enum.Declared.{tagOf}
 use Rattle.records.proofs.concept.Token.{the-type}
 use Rattle.records.specs.declared.concept.Token.the-variants.{Both, Empty, Reached, Common}
-use Rattle.records.specs.Concept.{directionOf, Concept, class, everything, constant, both, reached, common, Path, empty, step}
+use Rattle.records.specs.Concept.{Concept, class, everything, constant, both, reached, common, Path, empty, step}
 use Rattle.records.specs.Layout.{viewSteps, maxAttributes, maxObjects}
 use Rattle.records.specs.Schema.{Schema}
 use Rattle.records.specs.SchemaRecord.{schemaOf}
@@ -24,9 +23,10 @@ use Rattle.chase.specs.Forest.{Forest, size, walk, trek, makeFor, next}
 use Rattle.chase.proofs.SizeLaws.{trek-size}
 use Rattle.ground.specs.Objects.{forestIn, groundIn}
 use Rattle.forest.specs.declared.places.Root.{Root}
+use Rattle.forest.specs.declared.places.Step.{Step}
 use Rattle.forest.specs.declared.places.Here.{Here}
 use Rattle.forest.specs.Kept.{Kept, Grows}
-use Rattle.forest.specs.Places.{maxPlaces, standing, Stands, Follows, madeFor}
+use Rattle.forest.specs.Places.{maxPlaces, standing, Stands, heading, nextBy, makeBy, Follows, madeFor}
 use Rattle.forest.specs.Making.{CanMakeFor}
 use Rattle.forest.specs.Walking.{Walking, walked, trekked, CanWalk, CanTrek, Walked, Trekked}
 use Rattle.forest.proofs.ObjectLaws.{ground-kept}
@@ -200,10 +200,14 @@ module _ {schema view edges objects : List ℕ} {root : Root} {at : ℕ} {h : He
           (grows-then edges (λ H U. trek (schemaOf schema) H (pathAt view at) (root .start) (standing h) U .0) (x .grows) (y .grows))
 
 -- A step: the path before it, the values that it asks for, the list after it, and the concept on which it lands.
-module _ {schema view edges objects : List ℕ} {root : Root} {at : ℕ} {h : Here} (can : CanTrek schema view edges objects root (suc at) h)
-    (P : ℕ) (back : Bool) (is : tokenAt view at ≡ stepToken (directionOf back) P) where
+module _ {schema view edges objects : List ℕ} {root : Root} {h : Here} (step : Step)
+    (can : CanTrek schema view edges objects root (suc (step .at)) h)
+    (is : tokenAt view (step .at) ≡ stepToken (heading step) (step .attribute)) where
   abbrev S : Schema
   S = schemaOf schema
+
+  abbrev at : ℕ
+  at = step .at
 
   abbrev g : ℕ
   g = root .ground
@@ -214,8 +218,8 @@ module _ {schema view edges objects : List ℕ} {root : Root} {at : ℕ} {h : He
   abbrev G : Ground
   G = groundIn g objects edges
 
-  reads-step : ReadsStep view at (directionOf back) P
-  reads-step = step-reads view at (directionOf back) P (can .item) is
+  reads-step : ReadsStep view at (heading step) (step .attribute)
+  reads-step = step-reads view at (heading step) (step .attribute) (can .item) is
 
   abbrev first : Path
   first = pathAt view (startOf view at 1)
@@ -226,12 +230,12 @@ module _ {schema view edges objects : List ℕ} {root : Root} {at : ℕ} {h : He
   -- the model's forest with the values made, and its list after the step
   abbrev valued : Forest
   valued =
-      makeFor S G (directionOf back) P
+      makeBy step S G
       (s ∷ trekked schema edges objects root h first .1)
       (trekked schema edges objects root h first .0)
 
   abbrev landed : List ℕ
-  landed = next G valued (directionOf back) P (s ∷ trekked schema edges objects root h first .1)
+  landed = nextBy step G valued (s ∷ trekked schema edges objects root h first .1)
 
   step-is : trekked schema edges objects root h (pathAt view (suc at))
       ≡ (walk S G landing s landed valued, landed)
@@ -255,15 +259,15 @@ module _ {schema view edges objects : List ℕ} {root : Root} {at : ℕ} {h : He
             omega (
               arith,
               fits-valued,
-              makeFor-more S G (directionOf back) P
+              makeFor-more S G (heading step) (step .attribute)
                   (s ∷ trekked schema edges objects root h first .1)
                   (trekked schema edges objects root h first .0),
             );
         places = omega (arith, places);
       }
 
-  attribute : P < maxAttributes
-  attribute = step-attribute schema view (can .walking .sound) (can .walking .legal) at P back (omega (arith, can .walking .within)) is
+  attribute : step .attribute < maxAttributes
+  attribute = step-attribute schema view (can .walking .sound) (can .walking .legal) at (step .attribute) (step .backward) (omega (arith, can .walking .within)) is
 
   -- after the path
   module _ {q : Here} {a : List ℕ} (x : Trekked schema view edges objects root (startOf view at 1) h a q) where
@@ -279,7 +283,7 @@ module _ {schema view edges objects : List ℕ} {root : Root} {at : ℕ} {h : He
               (omega (arith, listed (can .walking .stands))) .1,
         )
 
-    pub step-make : CanMakeFor schema edges a root back P q
+    pub step-make : CanMakeFor schema edges a root step q
     step-make =
         record {
           legal = can .walking .legal;
@@ -291,25 +295,25 @@ module _ {schema view edges objects : List ℕ} {root : Root} {at : ℕ} {h : He
               omega (
                 arith,
                 fits-valued,
-                same-size edges (λ H U. makeFor S H (directionOf back) P (s ∷ standing q) U) (x .grows),
+                same-size edges (λ H U. makeBy step S H (s ∷ standing q) U) (x .grows),
                 ap
                     (λ (l : List ℕ). size G
-                    (makeFor S G (directionOf back) P (s ∷ l)
+                    (makeBy step S G (s ∷ l)
                     (trekked schema edges objects root h first .0))) (x .list),
               );
         }
 
     -- after the values were made
-    module _ {n : ℕ} {b : List ℕ} (made : Grows g (q .size) n a b (madeFor schema edges a root back P q)) where
+    module _ {n : ℕ} {b : List ℕ} (made : Grows g (q .size) n a b (madeFor schema edges a root step q)) where
       sofar : Grows g (h .size) n objects b valued
       sofar =
           subst
           (λ (l : List ℕ). Grows g (h .size) n objects b
-          (makeFor S G (directionOf back) P (s ∷ l)
+          (makeBy step S G (s ∷ l)
           (trekked schema edges objects root h first .0))) (x .list)
-          (grows-then edges (λ H U. makeFor S H (directionOf back) P (s ∷ standing q) U) (x .grows) made)
+          (grows-then edges (λ H U. makeBy step S H (s ∷ standing q) U) (x .grows) made)
 
-      pub step-next : Kept g n b × (P < maxAttributes) × (s < n) × Stands (grown q n) × (q .count < maxPlaces)
+      pub step-next : Kept g n b × (step .attribute < maxAttributes) × (s < n) × Stands (grown q n) × (q .count < maxPlaces)
       step-next = (
         made .kept,
         attribute,
@@ -319,13 +323,13 @@ module _ {schema view edges objects : List ℕ} {root : Root} {at : ℕ} {h : He
       )
 
       -- after the list was made
-      module _ {w : Here} (f : Follows root b back P (grown q n) w) where
+      module _ {w : Here} (f : Follows root b step (grown q n) w) where
         list-is : standing w ≡ landed
         list-is =
             f .list edges
-            ∙ ap₂ (λ (H : Ground) (U : Forest). next H U (directionOf back) P (s ∷ standing q))
+            ∙ ap₂ (λ (H : Ground) (U : Forest). nextBy step H U (s ∷ standing q))
             (ground-kept g b objects edges (sofar .ground)) (sofar .value)
-            ∙ ap (λ (l : List ℕ). next G valued (directionOf back) P (s ∷ l)) (x .list)
+            ∙ ap (λ (l : List ℕ). nextBy step G valued (s ∷ l)) (x .list)
 
         landing-is : walked schema edges b root w landing
             ≡ walk S (groundIn g b edges) landing s landed (forestIn g n b)

@@ -1,6 +1,5 @@
 -- What the making of values asks: the objects in order, and room for what is made.
 use Prim.Native.Nat.{ℕ, _≤_, _<_}
-use mathlib.Core.Bool.{Bool}
 use mathlib.Core.List.{List}
 use mathlib.Core.Path.{_≡_}
 use lib.ListN.{length, getD}
@@ -12,6 +11,7 @@ use Rattle.chase.specs.Loops.{each}
 use Rattle.chase.specs.Forest.{Forest, size, make}
 use Rattle.ground.specs.Objects.{forestIn, groundIn}
 use Rattle.forest.specs.declared.places.Root.{Root}
+use Rattle.forest.specs.declared.places.Step.{Step}
 use Rattle.forest.specs.declared.places.Here.{Here}
 use Rattle.forest.specs.Kept.{Kept}
 use Rattle.forest.specs.Places.{Stands, madeFor}
@@ -39,10 +39,10 @@ pub record CanMakeAll (schema edges objects : List ℕ) (g n mask P : ℕ) (l : 
   pub inside : (i : ℕ) → i < length l → getD l i 0 < n
   pub fits : size (groundIn g objects edges) (madeAll schema edges objects g n P l) ≤ maxObjects
 
-pub record CanMakeFor (schema edges objects : List ℕ) (root : Root) (back : Bool) (P : ℕ) (h : Here) : Type 0 where
+pub record CanMakeFor (schema edges objects : List ℕ) (root : Root) (step : Step) (h : Here) : Type 0 where
   pub legal : AcceptedSchema schema
   pub kept : Kept (root .ground) (h .size) objects
-  pub attribute : P < maxAttributes
+  pub attribute : step .attribute < maxAttributes
   pub start : root .start < h .size
   pub stands : Stands h
-  pub fits : size (groundIn (root .ground) objects edges) (madeFor schema edges objects root back P h) ≤ maxObjects
+  pub fits : size (groundIn (root .ground) objects edges) (madeFor schema edges objects root step h) ≤ maxObjects

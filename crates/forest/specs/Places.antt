@@ -1,15 +1,17 @@
 -- Where the walk stands (src/places.rt): the made objects at the present place of the view, and what a step makes of them.
 use Prim.Native.Nat.{ℕ, _+_, _≤_, _<_}
-use mathlib.Core.Bool.{Bool}
 use mathlib.Core.List.{List, [], _∷_, _++_}
 use mathlib.Core.Path.{_≡_}
 use lib.ListN.{length, getD, take}
-use Rattle.records.specs.Concept.{directionOf}
+use Rattle.records.specs.Concept.{Direction, directionOf}
 use Rattle.records.specs.Layout.{viewSteps}
+use Rattle.records.specs.Schema.{Schema}
 use Rattle.records.specs.SchemaRecord.{schemaOf}
+use Rattle.chase.specs.Ground.{Ground}
 use Rattle.chase.specs.Forest.{Forest, push, hop, next, makeFor}
 use Rattle.ground.specs.Objects.{forestIn, groundIn}
 use Rattle.forest.specs.declared.places.Root.{Root}
+use Rattle.forest.specs.declared.places.Step.{Step}
 use Rattle.forest.specs.declared.places.Here.{Here}
 
 abbrev pub maxPlaces : ℕ
@@ -39,22 +41,34 @@ pub record Pushed (h : Here) (k : ℕ) (r : Here) : Type 0 where
   pub size : r .size ≡ h .size
   pub more : r .count ≤ h .count + 1
 
+-- what the model does at a step of the view
+abbrev pub heading : Step → Direction
+heading step = directionOf (step .backward)
+
+abbrev pub hopBy : Step → Ground → Forest → ℕ → ℕ
+hopBy step G T d = hop G T (heading step) (step .attribute) d
+
+abbrev pub nextBy : Step → Ground → Forest → List ℕ → List ℕ
+nextBy step G T l = next G T (heading step) (step .attribute) l
+
+abbrev pub makeBy : Step → Schema → Ground → List ℕ → Forest → Forest
+makeBy step S G l T = makeFor S G (heading step) (step .attribute) l T
+
 -- r is where the step leads from d, if anywhere
-pub record Hopped (g n : ℕ) (objects : List ℕ) (back : Bool) (P d r : ℕ) : Type 0 where
-  pub value : (edges : List ℕ) → r ≡ hop (groundIn g objects edges) (forestIn g n objects) (directionOf back) P d
+pub record Hopped (g n : ℕ) (objects : List ℕ) (step : Step) (d r : ℕ) : Type 0 where
+  pub value : (edges : List ℕ) → r ≡ hopBy step (groundIn g objects edges) (forestIn g n objects) d
   pub inside : r ≤ n
 
 -- r has the list after the step
-pub record Follows (root : Root) (objects : List ℕ) (back : Bool) (P : ℕ) (h r : Here) : Type 0 where
+pub record Follows (root : Root) (objects : List ℕ) (step : Step) (h r : Here) : Type 0 where
   pub list : (edges : List ℕ)
-      → standing r
-      ≡ next (groundIn (root .ground) objects edges) (forestIn (root .ground) (h .size) objects) (directionOf back) P (root .start ∷ standing h)
+      → standing r ≡ nextBy step (groundIn (root .ground) objects edges) (forestIn (root .ground) (h .size) objects) (root .start ∷ standing h)
   pub stands : Stands r
   pub size : r .size ≡ h .size
   pub more : r .count ≤ h .count + 1
 
 -- the values that the start and those on the list lack before a step
-abbrev pub madeFor : List ℕ → List ℕ → List ℕ → Root → Bool → ℕ → Here → Forest
-madeFor schema edges objects root back P h =
-    makeFor (schemaOf schema) (groundIn (root .ground) objects edges) (directionOf back) P (root .start ∷ standing h)
+abbrev pub madeFor : List ℕ → List ℕ → List ℕ → Root → Step → Here → Forest
+madeFor schema edges objects root step h =
+    makeBy step (schemaOf schema) (groundIn (root .ground) objects edges) (root .start ∷ standing h)
     (forestIn (root .ground) (h .size) objects)

@@ -5,6 +5,7 @@ use crate::objects::lacks;
 use crate::objects::word;
 use crate::places::Here;
 use crate::places::Root;
+use crate::places::Step;
 use classes::closure::image;
 use classes::collect::needs_mask;
 use records::layout::wide;
@@ -70,17 +71,17 @@ pub fn make_for(
     schema: &[u16],
     edges: &[u16],
     root: Root,
-    attribute: usize,
-    backward: bool,
+    step: Step,
     here: Here,
     objects: &mut [u64; OBJECTS],
 ) -> usize
-    requires { ⌜ CanMakeFor (now schema) (now edges) (now objects) root backward attribute here ⌝ }
-    ensures { λ r. ⌜ Grows (root .ground) (here .size) r (now (objects .entry)) (now (objects .exit)) (madeFor (now (schema .entry)) (now (edges .entry)) (now (objects .entry)) root backward attribute here) ⌝ }
+    requires { ⌜ CanMakeFor (now schema) (now edges) (now objects) root step here ⌝ }
+    ensures { λ r. ⌜ Grows (root .ground) (here .size) r (now (objects .entry)) (now (objects .exit)) (madeFor (now (schema .entry)) (now (edges .entry)) (now (objects .entry)) root step here) ⌝ }
 {
-    if backward {
+    if step.backward {
         return here.size;
     }
+    let attribute = step.attribute;
     let mask = needs_mask(schema, attribute);
     let g = root.ground;
     let s = root.start;

@@ -19,6 +19,13 @@ pub struct Root {
     pub start: usize,
 }
 
+// A step of the view: where its token stands, its attribute, and whether it goes backward.
+pub struct Step {
+    pub at: usize,
+    pub attribute: usize,
+    pub backward: bool,
+}
+
 // Where the walk stands: how many objects there are, and which made objects are at the present place of the view.
 pub struct Here {
     pub size: usize,
@@ -54,41 +61,28 @@ impl Here {
 }
 
 // Where a step leads from an object within the made part.
-fn hop(
-    objects: &[u64; OBJECTS],
-    g: usize,
-    n: usize,
-    attribute: usize,
-    backward: bool,
-    d: usize,
-) -> usize
-    requires { ⌜ Kept g n (now objects) × (attribute < maxAttributes) × (d < n) ⌝ }
-    ensures { λ r. ⌜ Hopped g n (now (objects .entry)) backward attribute d r ⌝ }
+fn hop(objects: &[u64; OBJECTS], g: usize, n: usize, step: Step, d: usize) -> usize
+    requires { ⌜ Kept g n (now objects) × (step .attribute < maxAttributes) × (d < n) ⌝ }
+    ensures { λ r. ⌜ Hopped g n (now (objects .entry)) step d r ⌝ }
 {
-    if backward {
-        return parent(objects, g, n, attribute, d);
+    if step.backward {
+        return parent(objects, g, n, step.attribute, d);
     }
-    kid(objects, g, n, attribute, d)
+    kid(objects, g, n, step.attribute, d)
 }
 
 // The made objects after a step from the start and from those on the list.
-pub fn next(
-    objects: &[u64; OBJECTS],
-    root: Root,
-    attribute: usize,
-    backward: bool,
-    here: Here,
-) -> Here
-    requires { ⌜ Kept (root .ground) (here .size) (now objects) × (attribute < maxAttributes) × (root .start < here .size) × Stands here × (here .count < maxPlaces) ⌝ }
-    ensures { λ r. ⌜ Follows root (now (objects .entry)) backward attribute here r ⌝ }
+pub fn next(objects: &[u64; OBJECTS], root: Root, step: Step, here: Here) -> Here
+    requires { ⌜ Kept (root .ground) (here .size) (now objects) × (step .attribute < maxAttributes) × (root .start < here .size) × Stands here × (here .count < maxPlaces) ⌝ }
+    ensures { λ r. ⌜ Follows root (now (objects .entry)) step here r ⌝ }
 {
     let at = here.at;
     let n = here.size;
     let none = begin(n);
-    let mut after = none.push(hop(objects, root.ground, n, attribute, backward, root.start));
+    let mut after = none.push(hop(objects, root.ground, n, step, root.start));
     let count = here.count;
     for i in 0..count {
-        let more = after.push(hop(objects, root.ground, n, attribute, backward, wide(at[i])));
+        let more = after.push(hop(objects, root.ground, n, step, wide(at[i])));
         after = more;
     }
     after

@@ -4,6 +4,7 @@ use crate::make::make_for;
 use crate::objects::OBJECTS;
 use crate::places::Here;
 use crate::places::Root;
+use crate::places::Step;
 use crate::places::begin;
 use crate::places::next;
 use records::concept::Token;
@@ -15,13 +16,13 @@ ghost use mathlib.Core.Path.{_≡_};
 ghost use Rattle.records.specs.declared.concept.Token.the-variants.{Both, Common};
 ghost use Rattle.records.specs.Layout.{viewSteps};
 ghost use Rattle.records.specs.SchemaRecord.{signatureOf};
-ghost use Rattle.records.specs.Concept.{directionOf};
 ghost use Rattle.records.specs.ConceptRecord.{tokenAt};
 ghost use Rattle.records.specs.Helpers.Reading.{stepToken};
 ghost use Rattle.records.specs.SchemaRefusal.{AcceptedSchema};
 ghost use Rattle.records.specs.ConceptRefusal.{AcceptedConcept};
 ghost use Rattle.chase.specs.Bounds.{maxNodes};
 ghost use Rattle.forest.specs.Kept.{Kept};
+ghost use Rattle.forest.specs.Places.{heading};
 ghost use Rattle.forest.specs.Walking.{CanWalk, CanTrek, Walked, Trekked, Walks};
 
 // The concept that ends at `end`. Returns how many objects there are then.
@@ -107,8 +108,22 @@ fn trek(
     let at = end - 1;
     match token_at(view, at) {
         Token::Empty => here,
-        Token::Forward(p) => step(schema, view, edges, root, at, p, false, here, objects),
-        Token::Backward(p) => step(schema, view, edges, root, at, p, true, here, objects),
+        Token::Forward(attribute) => {
+            let ahead = Step {
+                at,
+                attribute,
+                backward: false,
+            };
+            step(schema, view, edges, root, ahead, here, objects)
+        }
+        Token::Backward(attribute) => {
+            let back = Step {
+                at,
+                attribute,
+                backward: true,
+            };
+            step(schema, view, edges, root, back, here, objects)
+        }
         // A concept's tokens end no path.
         Token::Class(_)
         | Token::Everything
@@ -119,25 +134,24 @@ fn trek(
     }
 }
 
-// The path with a step at its end, whose token stands at `at`.
+// The path with a step at its end.
 fn step(
     schema: &[u16],
     view: &[u16],
     edges: &[u16],
     root: Root,
-    at: usize,
-    attribute: usize,
-    backward: bool,
+    step: Step,
     here: Here,
     objects: &mut [u64; OBJECTS],
 ) -> Here
-    requires { ⌜ CanTrek (now schema) (now view) (now edges) (now objects) root (suc at) here × (tokenAt (now view) at ≡ stepToken (directionOf backward) attribute) ⌝ }
-    ensures { λ r. ⌜ Trekked (now (schema .entry)) (now (view .entry)) (now (edges .entry)) (now (objects .entry)) root (suc at) here (now (objects .exit)) r ⌝ }
+    requires { ⌜ CanTrek (now schema) (now view) (now edges) (now objects) root (suc (step .at)) here × (tokenAt (now view) (step .at) ≡ stepToken (heading step) (step .attribute)) ⌝ }
+    ensures { λ r. ⌜ Trekked (now (schema .entry)) (now (view .entry)) (now (edges .entry)) (now (objects .entry)) root (suc (step .at)) here (now (objects .exit)) r ⌝ }
 {
+    let at = step.at;
     let mut there = trek(schema, view, edges, root, start_of(view, at), here, objects);
-    let made = make_for(schema, edges, root, attribute, backward, there, objects);
+    let made = make_for(schema, edges, root, step, there, objects);
     there.size = made;
-    let mut after = next(objects, root, attribute, backward, there);
+    let mut after = next(objects, root, step, there);
     let n = walk(schema, view, edges, root, at, after, objects);
     after.size = n;
     after

@@ -39,7 +39,7 @@ abbrev μ-common : Measures 4 common-kinds.ps ℕ
 μ-common κs a = suc (2 * a .1 .1 .1 .1 .0)
 
 abbrev μ-step : Measures 4 step-kinds.ps ℕ
-μ-step κs a = suc (2 * a .1 .1 .1 .1 .0)
+μ-step κs a = suc (2 * a .1 .1 .1 .1 .0 .at)
 
 abbrev μ-trek : Measures 4 trek-kinds.ps ℕ
 μ-trek κs a = 2 * a .1 .1 .1 .1 .0
@@ -120,19 +120,19 @@ step-start-of-requires : (t : ℕ) → step-lts.Need-start-of-requires (step-cal
 step-start-of-requires t c κs = omega (arith, trek-short (c .before .before .before .pre .1 .0))
 
 step-trek-requires : (t : ℕ) → step-lts.Need-trek-requires (step-calls t) (step-at t) step.Post
-step-trek-requires t c κs = (omega (arith, c .before .before .before .before .before .pre .0, c .before .start-of .ensures, start-le (c .before .before .before .before .before .args .view .now) (c .before .before .before .before .before .args .at) 1), rw (c .before .start-of .ensures) (step-path (c .before .before .before .before .before .pre .1 .0) (c .before .before .before .before .before .args .attribute) (c .before .before .before .before .before .args .backward) (c .before .before .before .before .before .pre .1 .1)))
+step-trek-requires t c κs = (omega (arith, c .before .before .before .before .before .pre .0, c .before .start-of .ensures, start-le (c .before .before .before .before .before .args .view .now) (c .before .before .before .before .before .args .step .at) 1), rw (c .before .start-of .ensures) (step-path (c .before .before .before .before .before .args .step) (c .before .before .before .before .before .pre .1 .0) (c .before .before .before .before .before .pre .1 .1)))
 
 step-make-for-requires : (t : ℕ) → step-lts.Need-make-for-requires (step-calls t) (step-at t) step.Post
-step-make-for-requires t c κs = step-make (c .before .before .before .before .before .before .before .pre .1 .0) (c .before .before .before .before .before .before .before .args .attribute) (c .before .before .before .before .before .before .before .args .backward) (c .before .before .before .before .before .before .before .pre .1 .1) (rw (c .before .before .before .start-of .ensures) at (c .before .trek .ensures))
+step-make-for-requires t c κs = step-make (c .before .before .before .before .before .before .before .args .step) (c .before .before .before .before .before .before .before .pre .1 .0) (c .before .before .before .before .before .before .before .pre .1 .1) (rw (c .before .before .before .start-of .ensures) at (c .before .trek .ensures))
 
 step-next-requires : (t : ℕ) → step-lts.Need-next-requires (step-calls t) (step-at t) step.Post
-step-next-requires t c κs = step-next (c .before .before .before .before .before .before .before .before .before .pre .1 .0) (c .before .before .before .before .before .before .before .before .before .args .attribute) (c .before .before .before .before .before .before .before .before .before .args .backward) (c .before .before .before .before .before .before .before .before .before .pre .1 .1) (rw (c .before .before .before .before .before .start-of .ensures) at (c .before .before .before .trek .ensures)) (c .before .make-for .ensures)
+step-next-requires t c κs = step-next (c .before .before .before .before .before .before .before .before .before .args .step) (c .before .before .before .before .before .before .before .before .before .pre .1 .0) (c .before .before .before .before .before .before .before .before .before .pre .1 .1) (rw (c .before .before .before .before .before .start-of .ensures) at (c .before .before .before .trek .ensures)) (c .before .make-for .ensures)
 
 step-walk-requires : (t : ℕ) → step-lts.Need-walk-requires (step-calls t) (step-at t) step.Post
-step-walk-requires t c κs = (omega (arith, c .before .before .before .before .before .before .before .before .before .before .before .pre .0), step-walk (c .before .before .before .before .before .before .before .before .before .before .before .pre .1 .0) (c .before .before .before .before .before .before .before .before .before .before .before .args .attribute) (c .before .before .before .before .before .before .before .before .before .before .before .args .backward) (c .before .before .before .before .before .before .before .before .before .before .before .pre .1 .1) (rw (c .before .before .before .before .before .before .before .start-of .ensures) at (c .before .before .before .before .before .trek .ensures)) (c .before .before .before .make-for .ensures) (c .before .next .ensures))
+step-walk-requires t c κs = (omega (arith, c .before .before .before .before .before .before .before .before .before .before .before .pre .0), step-walk (c .before .before .before .before .before .before .before .before .before .before .before .args .step) (c .before .before .before .before .before .before .before .before .before .before .before .pre .1 .0) (c .before .before .before .before .before .before .before .before .before .before .before .pre .1 .1) (rw (c .before .before .before .before .before .before .before .start-of .ensures) at (c .before .before .before .before .before .trek .ensures)) (c .before .before .before .make-for .ensures) (c .before .next .ensures))
 
 step-returns : (t : ℕ) → step-lts.Need-returns (step-calls t) (step-at t) step.Post
-step-returns t c = step-trekked (c .before .before .before .before .before .before .before .before .before .before .before .before .pre .1 .0) (c .before .before .before .before .before .before .before .before .before .before .before .before .args .attribute) (c .before .before .before .before .before .before .before .before .before .before .before .before .args .backward) (c .before .before .before .before .before .before .before .before .before .before .before .before .pre .1 .1) (rw (c .before .before .before .before .before .before .before .before .start-of .ensures) at (c .before .before .before .before .before .before .trek .ensures)) (c .before .before .before .before .make-for .ensures) (c .before .before .next .ensures) (c .walk .ensures)
+step-returns t c = step-trekked (c .before .before .before .before .before .before .before .before .before .before .before .before .args .step) (c .before .before .before .before .before .before .before .before .before .before .before .before .pre .1 .0) (c .before .before .before .before .before .before .before .before .before .before .before .before .pre .1 .1) (rw (c .before .before .before .before .before .before .before .before .start-of .ensures) at (c .before .before .before .before .before .before .trek .ensures)) (c .before .before .before .before .make-for .ensures) (c .before .before .next .ensures) (c .walk .ensures)
 
 trek-sub-at : (t : ℕ) → trek-lts.Need-sub-at (trek-calls t) (trek-at t) trek.Post
 trek-sub-at t c = omega (arith, trek-after (c .before .before .before .pre .1))
@@ -143,17 +143,17 @@ trek-token-at-requires t c κs = omega (arith, trek-short (c .before .before .be
 trek-enum-told : (t : ℕ) → trek-lts.Need-enum-told (trek-calls t) (trek-at t) trek.Post
 trek-enum-told t c = search needs
 
-trek-enum-known-p : (t : ℕ) → trek-lts.Need-enum-known-p (trek-calls t) (trek-at t) trek.Post
-trek-enum-known-p t c = search needs
+trek-enum-known-attribute : (t : ℕ) → trek-lts.Need-enum-known-attribute (trek-calls t) (trek-at t) trek.Post
+trek-enum-known-attribute t c = search needs
 
 trek-step-requires : (t : ℕ) → trek-lts.Need-step-requires (trek-calls t) (trek-at t) trek.Post
-trek-step-requires t c κs = (omega (arith, c .before .before .before .before .before .before .before .before .pre .0, trek-after (c .before .before .before .before .before .before .before .before .pre .1)), (trek-from (c .before .before .before .before .before .before .before .before .pre .1), sym (c .before .before .before .before .token-at .ensures) ∙ c .before .before .p .given .1))
+trek-step-requires t c κs = (omega (arith, c .before .before .before .before .before .before .before .before .pre .0, trek-after (c .before .before .before .before .before .before .before .before .pre .1)), (trek-from (c .before .before .before .before .before .before .before .before .pre .1), sym (c .before .before .before .before .token-at .ensures) ∙ c .before .before .attribute .given .1))
 
-trek-enum-known-p-2 : (t : ℕ) → trek-lts.Need-enum-known-p-2 (trek-calls t) (trek-at t) trek.Post
-trek-enum-known-p-2 t c = search needs
+trek-enum-known-attribute-2 : (t : ℕ) → trek-lts.Need-enum-known-attribute-2 (trek-calls t) (trek-at t) trek.Post
+trek-enum-known-attribute-2 t c = search needs
 
 trek-step-requires-2 : (t : ℕ) → trek-lts.Need-step-requires-2 (trek-calls t) (trek-at t) trek.Post
-trek-step-requires-2 t c κs = (omega (arith, c .before .before .before .before .before .before .before .before .pre .0, trek-after (c .before .before .before .before .before .before .before .before .pre .1)), (trek-from (c .before .before .before .before .before .before .before .before .pre .1), sym (c .before .before .before .before .token-at .ensures) ∙ c .before .before .p2 .given .1))
+trek-step-requires-2 t c κs = (omega (arith, c .before .before .before .before .before .before .before .before .pre .0, trek-after (c .before .before .before .before .before .before .before .before .pre .1)), (trek-from (c .before .before .before .before .before .before .before .before .pre .1), sym (c .before .before .before .before .token-at .ensures) ∙ c .before .before .attribute2 .given .1))
 
 trek-returns : (t : ℕ) → trek-lts.Need-returns (trek-calls t) (trek-at t) trek.Post
 trek-returns t c = trek-leaf (c .before .before .before .before .before .before .pre .1) (sym (c .before .before .token-at .ensures) ∙ c .enum-told .given .1)
@@ -238,9 +238,9 @@ pub +both+common+step+trek+walk-spec : {M : Type 1} → statement M
     (trek-sub-at t)
     (trek-token-at-requires t)
     (trek-enum-told t)
-    (trek-enum-known-p t)
+    (trek-enum-known-attribute t)
     (trek-step-requires t)
-    (trek-enum-known-p-2 t)
+    (trek-enum-known-attribute-2 t)
     (trek-step-requires-2 t)
     (trek-returns t)
     (trek-returns-2 t)
