@@ -3,7 +3,7 @@ use Prim.Native.Nat.{ℕ, zero, suc, _+_, _≤_, _<_, _^_}
 use native.Mathlib.Omega.{arith}
 use native.Mathlib.Decide.{ℕ-discrete}
 use native.Mathlib.Numerals.{add-one}
-use mathlib.Core.Bool.{Bool, true, false, So, cond, false≢true}
+use mathlib.Core.Bool.{Bool, true, false, So, cond}
 use mathlib.Core.List.{List, [], _∷_}
 use mathlib.Core.Path.{_≡_, refl, sym, ap, ap₂, subst, _∙_}
 use lib.ListN.{length, getD, set, take, length-set}
@@ -19,12 +19,13 @@ use Rattle.chase.specs.Forest.{Forest, grow, size, lacks, sprout, make, makeFor
 use Rattle.chase.proofs.LoopLaws.{each-next}
 use Rattle.records.proofs.General.BoolLaws.{cond-elim}
 use Rattle.ground.specs.Objects.{link, objectWord, classesIn, makerIn, forestIn, groundIn}
+use Rattle.forest.specs.declared.make.Need.{Need}
 use Rattle.forest.specs.declared.places.Root.{Root}
 use Rattle.forest.specs.declared.places.Step.{Step}
 use Rattle.forest.specs.declared.places.Here.{Here}
 use Rattle.forest.specs.Kept.{Kept, Grows}
 use Rattle.forest.specs.Places.{standing, Stands, madeFor}
-use Rattle.forest.specs.Making.{madeAt, madeAll, CanMake, CanMakeAll, CanMakeFor}
+use Rattle.forest.specs.Making.{madeAt, madeAll, NeedOf, CanMake, CanMakeAll, CanMakeFor}
 use Rattle.forest.proofs.ObjectLaws.{ground-kept, size-laid, classes-laid, word-classes, word-maker, forest-grown}
 
 -- one change after another: f is of the ground, which stays, and of the forest
@@ -37,6 +38,11 @@ grows-then {g} {n} {m} {r} {a} {b} {c} {U} edges f x y =
       more = omega (arith, x .more, y .more);
       ground = y .ground ∙ x .ground;
     }
+
+-- .. so that the size is known too
+pub same-size : {g n m : ℕ} {a b : List ℕ} {U : Forest} (edges : List ℕ) (f : Ground → Forest → Forest) → Grows g n m a b U
+    → size (groundIn g b edges) (f (groundIn g b edges) (forestIn g m b)) ≡ size (groundIn g a edges) (f (groundIn g a edges) U)
+same-size {g} {n} {m} {a} {b} edges f x = ap₂ (λ (H : Ground) (T : Forest). size H (f H T)) (ground-kept g b a edges (x .ground)) (x .value)
 
 pub grows-self : {g n : ℕ} {a : List ℕ} {T : Forest} → Kept g n a → forestIn g n a ≡ T → Grows g n n a a T
 grows-self k e = record { value = e; kept = k; more = omega arith; ground = refl }
@@ -87,17 +93,18 @@ module _ (g n : ℕ) (objects : List ℕ) (kept : Kept g n objects) (room : n < 
       }
 
 -- the value of one object
-module _ {schema edges objects : List ℕ} {g n mask P d : ℕ} (can : CanMake schema edges objects g n mask P d) where
+module _ {schema edges objects : List ℕ} {g n : ℕ} {need : Need} {d : ℕ} (can : CanMake schema edges objects g n need d) where
   abbrev Lacking : Bool
-  Lacking = lacks (schemaOf schema) (groundIn g objects edges) (forestIn g n objects) P d
+  Lacking = lacks (schemaOf schema) (groundIn g objects edges) (forestIn g n objects) (need .attribute) d
 
-  made : (b : Bool) → Lacking ≡ b
-      → madeAt schema edges objects g n P d
-      ≡ cond b (sprout (schemaOf schema) (groundIn g objects edges) P d (forestIn g n objects)) (forestIn g n objects)
+  abbrev sprouted : Forest
+  sprouted = sprout (schemaOf schema) (groundIn g objects edges) (need .attribute) d (forestIn g n objects)
+
+  made : (b : Bool) → Lacking ≡ b → madeAt schema edges objects g n need d ≡ cond b sprouted (forestIn g n objects)
   unfolding make
-  made b q = ap (λ (t : Bool). cond t (sprout (schemaOf schema) (groundIn g objects edges) P d (forestIn g n objects)) (forestIn g n objects)) q
+  made b q = ap (λ (t : Bool). cond t sprouted (forestIn g n objects)) q
 
-  pub make-idle : Lacking ≡ false → Grows g n n objects objects (madeAt schema edges objects g n P d)
+  pub make-idle : Lacking ≡ false → Grows g n n objects objects (madeAt schema edges objects g n need d)
   make-idle q = grows-self (can .kept) (sym (made false q))
 
   pub make-room : So Lacking → n < maxObjects
@@ -110,15 +117,17 @@ module _ {schema edges objects : List ℕ} {g n mask P d : ℕ} (can : CanMake s
         can .fits,
       )
 
-  pub make-one : So Lacking → (c : ℕ) → c < 2 ^ 32 → c ≡ image (schemaOf schema) (classesIn (getD objects d 0)) P
-      → Grows g n (n + 1) objects (set objects n (objectWord c (link P d))) (madeAt schema edges objects g n P d)
+  pub make-one : So Lacking → (c : ℕ) → c < 2 ^ 32 → c ≡ image (schemaOf schema) (classesIn (getD objects d 0)) (need .attribute)
+      → Grows g n (n + 1) objects (set objects n (objectWord c (link (need .attribute) d))) (madeAt schema edges objects g n need d)
   make-one q c small e =
-      let k : grow (forestIn g n objects) d P c ≡ madeAt schema edges objects g n P d
-      = ap (grow (forestIn g n objects) d P)
-      (e ∙ ap (λ (i : ℕ). image (schemaOf schema) i P) (sym (classes-laid (schemaOf schema) g n objects (can .kept .laid) edges d (can .inside))))
+      let k : grow (forestIn g n objects) d (need .attribute) c ≡ madeAt schema edges objects g n need d
+      = ap (grow (forestIn g n objects) d (need .attribute))
+      (e
+      ∙ ap (λ (i : ℕ). image (schemaOf schema) i (need .attribute))
+      (sym (classes-laid (schemaOf schema) g n objects (can .kept .laid) edges d (can .inside))))
       ∙ sym (made true q) in
-      subst (Grows g n (n + 1) objects (set objects n (objectWord c (link P d)))) k
-      (grows-one g n objects (can .kept) (make-room q) c P d (can .attribute) (can .inside) small)
+      subst (Grows g n (n + 1) objects (set objects n (objectWord c (link (need .attribute) d)))) k
+      (grows-one g n objects (can .kept) (make-room q) c (need .attribute) d (can .known .attribute) (can .inside) small)
 
 -- no value is taken back
 module _ (S : Schema) (G : Ground) where
@@ -143,122 +152,105 @@ module _ (S : Schema) (G : Ground) where
   makeFor-more backward P l T = omega arith
 
 -- the values of the first i on a list
-module _ (schema edges objects : List ℕ) (g n mask P : ℕ) (l : List ℕ) where
-  pub made-none : Kept g n objects → Grows g n n objects objects (madeAll schema edges objects g n P (take 0 l))
+module _ (schema edges objects : List ℕ) (g n : ℕ) (need : Need) (l : List ℕ) where
+  pub made-none : Kept g n objects → Grows g n n objects objects (madeAll schema edges objects g n need (take 0 l))
   unfolding each
   made-none k = grows-self k refl
 
   pub made-all : {r : ℕ} {after : List ℕ} (i : ℕ) → length l ≤ i
-      → Grows g n r objects after (madeAll schema edges objects g n P (take i l))
-      → Grows g n r objects after (madeAll schema edges objects g n P l)
+      → Grows g n r objects after (madeAll schema edges objects g n need (take i l))
+      → Grows g n r objects after (madeAll schema edges objects g n need l)
   made-all {r} {after} i k x =
-      subst (λ (m : List ℕ). Grows g n r objects after (madeAll schema edges objects g n P m)) (take-all i l k) x
+      subst (λ (m : List ℕ). Grows g n r objects after (madeAll schema edges objects g n need m)) (take-all i l k) x
 
-  module _ (can : CanMakeAll schema edges objects g n mask P l) (r i d : ℕ) (after : List ℕ) (k : i < length l) (e : d ≡ getD l i 0)
-      (so : Grows g n r objects after (madeAll schema edges objects g n P (take i l))) where
-    one-more : make (schemaOf schema) (groundIn g objects edges) P d (madeAll schema edges objects g n P (take i l))
-        ≡ madeAll schema edges objects g n P (take (suc i) l)
+  module _ (can : CanMakeAll schema edges objects g n need l) (r i d : ℕ) (after : List ℕ) (k : i < length l) (e : d ≡ getD l i 0)
+      (so : Grows g n r objects after (madeAll schema edges objects g n need (take i l))) where
+    one-more : make (schemaOf schema) (groundIn g objects edges) (need .attribute) d (madeAll schema edges objects g n need (take i l))
+        ≡ madeAll schema edges objects g n need (take (suc i) l)
     one-more =
-        ap (λ (j : ℕ). make (schemaOf schema) (groundIn g objects edges) P j (madeAll schema edges objects g n P (take i l))) e
-        ∙ sym (each-next (make (schemaOf schema) (groundIn g objects edges) P) l i 0 k (forestIn g n objects))
+        ap (λ (j : ℕ). make (schemaOf schema) (groundIn g objects edges) (need .attribute) j (madeAll schema edges objects g n need (take i l))) e
+        ∙ sym (each-next (make (schemaOf schema) (groundIn g objects edges) (need .attribute)) l i 0 k (forestIn g n objects))
 
-    pub make-next : CanMake schema edges after g r mask P d
+    pub make-next : CanMake schema edges after g r need d
     make-next =
         record {
-          legal = can .legal;
+          known = can .known;
           kept = so .kept;
-          needing = can .needing;
-          attribute = can .attribute;
           inside = omega (arith, can .inside i k, so .more);
           fits =
-              let same
-              : size (groundIn g after edges) (madeAt schema edges after g r P d)
-              ≡ size (groundIn g objects edges) (madeAll schema edges objects g n P (take (suc i) l))
-              = ap₂ (λ (H : Ground) (T : Forest). size H (make (schemaOf schema) H P d T)) (ground-kept g after objects edges (so .ground))
-              (so .value)
-              ∙ ap (size (groundIn g objects edges)) one-more in
-              omega (arith, same, take-more (schemaOf schema) (groundIn g objects edges) P l (suc i) (forestIn g n objects), can .fits);
+              omega (
+                arith,
+                same-size edges (λ H T. make (schemaOf schema) H (need .attribute) d T) so,
+                ap (size (groundIn g objects edges)) one-more,
+                take-more (schemaOf schema) (groundIn g objects edges) (need .attribute) l (suc i) (forestIn g n objects),
+                can .fits,
+              );
         }
 
-    pub made-more : (m : ℕ) (last : List ℕ) → Grows g r m after last (madeAt schema edges after g r P d)
-        → Grows g n m objects last (madeAll schema edges objects g n P (take (i + 1) l))
+    pub made-more : (m : ℕ) (last : List ℕ) → Grows g r m after last (madeAt schema edges after g r need d)
+        → Grows g n m objects last (madeAll schema edges objects g n need (take (i + 1) l))
     made-more m last y =
-        rw add-one (subst (Grows g n m objects last) one-more (grows-then edges (λ H T. make (schemaOf schema) H P d T) so y))
+        rw add-one (subst (Grows g n m objects last) one-more (grows-then edges (λ H T. make (schemaOf schema) H (need .attribute) d T) so y))
 
 pub listed : {h : Here} → Stands h → h .count ≡ length (standing h)
 listed {h} stands = sym (length-take-le (h .count) (h .at) (omega (arith, stands .few, stands .room)))
 
 -- the values of the start and of those on the list where the walk stands
-module _ {schema edges objects : List ℕ} {root : Root} {step : Step} {h : Here} (q : step .backward ≡ false)
-    (can : CanMakeFor schema edges objects root step h) where
-  abbrev S : Schema
-  S = schemaOf schema
-
+module _ {schema edges objects : List ℕ} {root : Root} {step : Step} {h : Here} {mask : ℕ} (q : step .backward ≡ false)
+    (can : CanMakeFor schema edges objects root step h) (e : mask ≡ collect (schemaOf schema) (needsBy (step .attribute))) where
   abbrev g : ℕ
   g = root .ground
-
-  abbrev s : ℕ
-  s = root .start
-
-  abbrev P : ℕ
-  P = step .attribute
 
   abbrev G : Ground
   G = groundIn g objects edges
 
-  all-of : madeFor schema edges objects root step h
-      ≡ each (make S G P) (standing h) (madeAt schema edges objects g (h .size) P s)
+  abbrev need : Need
+  need = record { attribute = step .attribute; mask = mask }
+
+  known : NeedOf schema need
+  known = record { legal = can .legal; needing = e; attribute = can .attribute }
+
+  -- first that of the start, then the rest
+  abbrev first : Forest
+  first = madeAt schema edges objects g (h .size) need (root .start)
+
+  abbrev rest : Ground → Forest → Forest
+  rest H T = each (make (schemaOf schema) H (step .attribute)) (standing h) T
+
+  all-of : madeFor schema edges objects root step h ≡ rest G first
   unfolding each makeFor
   all-of =
       ap
-      (λ (b : Bool). makeFor S G (directionOf b) P (s ∷ standing h) (forestIn g (h .size) objects))
+      (λ (b : Bool). makeFor (schemaOf schema) G (directionOf b) (step .attribute) (root .start ∷ standing h) (forestIn g (h .size) objects))
       q
 
-  all-fit : size G
-      (each (make S G P) (standing h) (madeAt schema edges objects g (h .size) P s))
-      ≤ maxObjects
+  all-fit : size G (rest G first) ≤ maxObjects
   all-fit = subst (λ (T : Forest). size G T ≤ maxObjects) all-of (can .fits)
 
-  pub make-first : (mask : ℕ) → mask ≡ collect S (needsBy P) → CanMake schema edges objects g (h .size) mask P s
-  make-first mask e =
+  pub make-first : CanMake schema edges objects g (h .size) need (root .start)
+  make-first =
       record {
-        legal = can .legal;
-        kept = can .kept;
-        needing = e;
-        attribute = can .attribute;
-        inside = can .start;
-        fits =
-            omega (
-              arith,
-              each-more S G P (standing h) (madeAt schema edges objects g (h .size) P s),
-              all-fit,
-            );
+        known = known;
+        kept = can .ready .kept;
+        inside = can .ready .start;
+        fits = omega (arith, each-more (schemaOf schema) G (step .attribute) (standing h) first, all-fit);
       }
 
-  module _ (n : ℕ) (after : List ℕ) (so : Grows g (h .size) n objects after (madeAt schema edges objects g (h .size) P s)) where
-    pub make-rest : (mask : ℕ) → mask ≡ collect S (needsBy P) → CanMakeAll schema edges after g n mask P (standing h)
-    make-rest mask e =
-        let long = listed (can .stands) in
+  module _ (n : ℕ) (after : List ℕ) (so : Grows g (h .size) n objects after first) where
+    pub make-rest : CanMakeAll schema edges after g n need (standing h)
+    make-rest =
+        let long = listed (can .ready .stands) in
         record {
-          legal = can .legal;
+          known = known;
           kept = so .kept;
-          needing = e;
-          attribute = can .attribute;
           inside = λ i k.
-              omega (arith, getD-take (h .count) (h .at) i 0 (omega (arith, long)), can .stands .inside i (omega (arith, long)), so .more);
-          fits =
-              subst (λ (m : ℕ). m ≤ maxObjects)
-              (sym
-              (ap₂ (λ (H : Ground) (T : Forest). size H (each (make S H P) (standing h) T))
-              (ground-kept g after objects edges (so .ground)) (so .value)))
-              all-fit;
+              omega (arith, getD-take (h .count) (h .at) i 0 (omega (arith, long)), can .ready .stands .inside i (omega (arith, long)), so .more);
+          fits = omega (arith, same-size edges rest so, all-fit);
         }
 
-    pub made-for : (r : ℕ) (last : List ℕ) → Grows g n r after last (madeAll schema edges after g n P (standing h))
+    pub made-for : (r : ℕ) (last : List ℕ) → Grows g n r after last (madeAll schema edges after g n need (standing h))
         → Grows g (h .size) r objects last (madeFor schema edges objects root step h)
-    made-for r last y =
-        subst (Grows g (h .size) r objects last) (sym all-of)
-        (grows-then edges (λ H T. each (make S H P) (standing h) T) so y)
+    made-for r last y = subst (Grows g (h .size) r objects last) (sym all-of) (grows-then edges rest so y)
 
 -- nothing is made before a backward step
 pub made-back : {schema edges objects : List ℕ} {root : Root} {step : Step} {h : Here} → step .backward ≡ true
@@ -266,7 +258,7 @@ pub made-back : {schema edges objects : List ℕ} {root : Root} {step : Step} {h
     → Grows (root .ground) (h .size) (h .size) objects objects (madeFor schema edges objects root step h)
 unfolding makeFor
 made-back {schema} {edges} {objects} {root} {step} {h} q can =
-    grows-self (can .kept)
+    grows-self (can .ready .kept)
     (sym
     (ap
     (λ (b : Bool). makeFor (schemaOf schema) (groundIn (root .ground) objects edges) (directionOf b) (step .attribute) (root .start ∷ standing h)

@@ -19,7 +19,7 @@ use Rattle.forest.specs.declared.places.Root.{Root}
 use Rattle.forest.specs.declared.places.Step.{Step}
 use Rattle.forest.specs.declared.places.Here.{Here}
 use Rattle.forest.specs.Kept.{Kept}
-use Rattle.forest.specs.Places.{maxPlaces, standing, Stands, Begins, Pushed, heading, hopBy, nextBy, Hopped, Follows}
+use Rattle.forest.specs.Places.{maxPlaces, standing, Stands, Begins, Pushed, heading, nextBy, Hopped, Follows}
 use Rattle.forest.proofs.ObjectLaws.{size-laid, parent-made, parent-ground}
 
 -- an object comes to the end of the list, or none
@@ -63,42 +63,36 @@ module _ (h : Here) (k : ℕ) (stands : Stands h) where
 
 -- where a step leads is an object that is there
 module _ {g n : ℕ} {objects : List ℕ} (kept : Kept g n objects) (step : Step) (d r : ℕ) (h : d < n) where
-  hopped-as : (b : Bool) → step .backward ≡ b
+  hopped : {b : Bool} → step .backward ≡ b
       → ((edges : List ℕ) → r ≡ hop (groundIn g objects edges) (forestIn g n objects) (directionOf b) (step .attribute) d)
-      → (edges : List ℕ) → r ≡ hopBy step (groundIn g objects edges) (forestIn g n objects) d
-  hopped-as b q k edges =
-      k edges ∙ ap (λ (c : Bool). hop (groundIn g objects edges) (forestIn g n objects) (directionOf c) (step .attribute) d) (sym q)
+      → r ≤ n
+      → Hopped g n objects step d r
+  hopped q k inside =
+      record {
+        value = λ edges.
+            k edges ∙ ap (λ (c : Bool). hop (groundIn g objects edges) (forestIn g n objects) (directionOf c) (step .attribute) d) (sym q);
+        inside = inside;
+      }
 
   pub hopped-ahead : step .backward ≡ false
       → ((edges : List ℕ) → r ≡ kid (groundIn g objects edges) (forestIn g n objects) (step .attribute) d)
       → Hopped g n objects step d r
   hopped-ahead q k =
-      record {
-        value = hopped-as false q k;
-        inside =
-            omega (
-              arith,
-              k [],
-              kid-bound (groundIn g objects []) (forestIn g n objects) (step .attribute) d,
-              size-laid g n objects (kept .laid) objects [],
-            );
-      }
+      let bound = kid-bound (groundIn g objects []) (forestIn g n objects) (step .attribute) d in
+      hopped q k (omega (arith, k [], bound, size-laid g n objects (kept .laid) objects []))
 
   pub hopped-back : step .backward ≡ true
       → ((edges : List ℕ) → r ≡ parent (groundIn g objects edges) (forestIn g n objects) (step .attribute) d)
       → Hopped g n objects step d r
   hopped-back q k =
-      record {
-        value = hopped-as true q k;
-        inside =
-            elim (decLt d g) [
-              | yes y ↦ omega (arith, k [], parent-ground (groundIn g objects []) (forestIn g n objects) (step .attribute) d y)
-              | no z ↦
-                  cond-elim (λ v. r ≡ v → r ≤ n) (eqb (attributeIn (getD objects d 0)) (step .attribute))
-                  (λ _ e. omega (arith, e, kept .makers d (omega arith) h)) (λ _ e. omega (arith, e))
-                  (k [] ∙ parent-made g n objects (kept .laid) objects [] (step .attribute) d (omega arith) h)
-            ];
-      }
+      hopped q k
+      (elim (decLt d g) [
+        | yes y ↦ omega (arith, k [], parent-ground (groundIn g objects []) (forestIn g n objects) (step .attribute) d y)
+        | no z ↦
+            cond-elim (λ v. r ≡ v → r ≤ n) (eqb (attributeIn (getD objects d 0)) (step .attribute))
+            (λ _ e. omega (arith, e, kept .makers d (omega arith) h)) (λ _ e. omega (arith, e))
+            (k [] ∙ parent-made g n objects (kept .laid) objects [] (step .attribute) d (omega arith) h)
+      ])
 
 -- the list after a step, of the first i objects
 module _ (G : Ground) (T : Forest) (r : Direction) (P : ℕ) where
@@ -148,7 +142,7 @@ module _ (root : Root) (objects : List ℕ) (step : Step) where
             let G = groundIn (root .ground) objects edges in
             let T = forestIn (root .ground) (h .size) objects in
             pushed .list ∙ ap₂ (λ (m : List ℕ) (j : ℕ). m ++ push j []) (after .list edges) (hopped .value edges)
-            ∙ ap (λ (j : ℕ). nextBy step G T (root .start ∷ take i (standing h)) ++ push (hopBy step G T j) [])
+            ∙ ap (λ (j : ℕ). nextBy step G T (root .start ∷ take i (standing h)) ++ push (hop G T (heading step) (step .attribute) j) [])
             (e ∙ sym (getD-take (h .count) (h .at) i 0 l))
             ∙ rw add-one (sym (next-more G T (heading step) (step .attribute) (root .start) (standing h) i (omega (arith, long))));
         stands = pushed .stands;

@@ -27,8 +27,8 @@ use Rattle.forest.specs.Kept.{Kept, Grows}
 use Rattle.forest.specs.Places.{Begins}
 use Rattle.forest.specs.Walking.{walked, CanWalk, Walked, Walks}
 use Rattle.forest.proofs.ObjectLaws.{forest-none, size-laid}
-use Rattle.forest.proofs.GrowLaws.{grows-then, grows-self}
-use Rattle.forest.proofs.WalkLaws.{walk-more, same-size}
+use Rattle.forest.proofs.GrowLaws.{grows-then, same-size, grows-self}
+use Rattle.forest.proofs.WalkLaws.{walk-more}
 
 -- the walks from the first i objects
 abbrev pub rounds : Schema → Ground → Concept → ℕ → Forest
@@ -99,9 +99,12 @@ module _ (schema view edges objects : List ℕ) (g : ℕ) (legal : AcceptedSchem
                 legal = legal;
                 sound = sound;
                 within = omega arith;
-                kept = subst (λ (k : ℕ). Kept g k b) (sym (begins .size)) (x .kept);
-                start = omega (arith, x .more, begins .size);
-                stands = begins .stands;
+                ready =
+                    record {
+                      kept = subst (λ (k : ℕ). Kept g k b) (sym (begins .size)) (x .kept);
+                      start = omega (arith, x .more, begins .size);
+                      stands = begins .stands;
+                    };
               };
           item = subst (HasConcept view) (sym e) (accepted-concept view (passes-5 viewSteps (signatureOf schema) view sound) .0);
           fits =

@@ -25,12 +25,12 @@ use Rattle.ground.specs.Objects.{forestIn, groundIn}
 use Rattle.forest.specs.declared.places.Root.{Root}
 use Rattle.forest.specs.declared.places.Step.{Step}
 use Rattle.forest.specs.declared.places.Here.{Here}
-use Rattle.forest.specs.Kept.{Kept, Grows}
-use Rattle.forest.specs.Places.{maxPlaces, standing, Stands, heading, nextBy, makeBy, Follows, madeFor}
+use Rattle.forest.specs.Kept.{Kept, Grows, Fits}
+use Rattle.forest.specs.Places.{maxPlaces, standing, Stands, Ready, heading, nextBy, makeBy, Follows, madeFor}
 use Rattle.forest.specs.Making.{CanMakeFor}
 use Rattle.forest.specs.Walking.{Walking, walked, trekked, CanWalk, CanTrek, Walked, Trekked}
 use Rattle.forest.proofs.ObjectLaws.{ground-kept}
-use Rattle.forest.proofs.GrowLaws.{grows-then, grows-self, makeFor-more, listed}
+use Rattle.forest.proofs.GrowLaws.{grows-then, same-size, grows-self, makeFor-more, listed}
 use Rattle.forest.proofs.ViewLaws.{view-short, step-attribute, leaf-tags, leaf-walk}
 
 -- nothing is taken back
@@ -60,44 +60,35 @@ pub stands-grown : {h : Here} {n : ℕ} → Stands h → h .size ≤ n → Stand
 stands-grown s m =
     record { room = s .room; few = s .few; inside = λ i k. omega (arith, s .inside i k) }
 
-module _ {schema view objects : List ℕ} {root : Root} {h : Here} where
-  -- at an earlier place
-  earlier : {e : ℕ} → Walking schema view objects root e h → (d : ℕ) → d ≤ e → Walking schema view objects root d h
-  earlier w d l =
-      record {
-        legal = w .legal;
-        sound = w .sound;
-        within = omega (arith, w .within);
-        kept = w .kept;
-        start = w .start;
-        stands = w .stands;
-      }
+-- among the objects after a change, with another list
+ready-after : {objects after : List ℕ} {root : Root} {h : Here} {n : ℕ} {T : Forest} → Ready objects root h
+    → Grows (root .ground) (h .size) n objects after T
+    → (q : Here) → q .size ≡ n → Stands q
+    → Ready after root q
+ready-after {after = after} {root = root} w x q eq stands =
+    record {
+      kept = subst (λ (k : ℕ). Kept (root .ground) k after) (sym eq) (x .kept);
+      start = omega (arith, w .start, x .more);
+      stands = stands;
+    }
 
-  -- among the objects after a change, with another list
-  later : {e n : ℕ} {after : List ℕ} {T : Forest} → Walking schema view objects root e h → Grows (root .ground) (h .size) n objects after T
+module _ {schema view objects : List ℕ} {root : Root} {h : Here} {e : ℕ} (w : Walking schema view objects root e h) where
+  -- at an earlier place
+  earlier : (d : ℕ) → d ≤ e → Walking schema view objects root d h
+  earlier d l = record { legal = w .legal; sound = w .sound; within = omega (arith, w .within); ready = w .ready }
+
+  later : {n : ℕ} {after : List ℕ} {T : Forest} → Grows (root .ground) (h .size) n objects after T
       → (q : Here) → q .size ≡ n → Stands q
       → Walking schema view after root e q
-  later {n = n} {after = after} w x q eq stands =
-      record {
-        legal = w .legal;
-        sound = w .sound;
-        within = w .within;
-        kept = subst (λ (k : ℕ). Kept (root .ground) k after) (sym eq) (x .kept);
-        start = omega (arith, w .start, x .more);
-        stands = stands;
-      }
-
--- the ground, and so the size of a forest, after a change
-pub same-size : {g n m : ℕ} {a b : List ℕ} {U : Forest} (edges : List ℕ) (f : Ground → Forest → Forest) → Grows g n m a b U
-    → size (groundIn g b edges) (f (groundIn g b edges) (forestIn g m b)) ≡ size (groundIn g a edges) (f (groundIn g a edges) U)
-same-size {g} {n} {m} {a} {b} edges f x = ap₂ (λ (H : Ground) (T : Forest). size H (f H T)) (ground-kept g b a edges (x .ground)) (x .value)
+  later x q eq stands =
+      record { legal = w .legal; sound = w .sound; within = w .within; ready = ready-after (w .ready) x q eq stands }
 
 module _ {schema view edges objects : List ℕ} {root : Root} {at : ℕ} {h : Here} (can : CanWalk schema view edges objects root (suc at) h) where
   -- the walk of what the token says
   of : (C : Concept) → conceptAt view (suc at) ≡ C
-      → (size (groundIn (root .ground) objects edges) (walked schema edges objects root h C) ≤ maxObjects) × (h .count + conceptSteps C ≤ viewSteps)
+      → (Fits (root .ground) objects edges (walked schema edges objects root h C)) × (h .count + conceptSteps C ≤ viewSteps)
   of C q = (
-    subst (λ (D : Concept). size (groundIn (root .ground) objects edges) (walked schema edges objects root h D) ≤ maxObjects) q (can .fits),
+    subst (λ (D : Concept). Fits (root .ground) objects edges (walked schema edges objects root h D)) q (can .fits),
     subst (λ (D : Concept). h .count + conceptSteps D ≤ viewSteps) q (can .places),
   )
 
@@ -127,7 +118,7 @@ module _ {schema view edges objects : List ℕ} {root : Root} {at : ℕ} {h : He
       both-last =
           let o = of (both (conceptAt view (startOf view at 1)) (conceptAt view at)) (reads .0) in
           record {
-            walking = earlier (later (can .walking) x (grown h n) refl (stands-grown (can .walking .stands) (x .more))) at (omega arith);
+            walking = earlier (later (can .walking) x (grown h n) refl (stands-grown (can .walking .ready .stands) (x .more))) at (omega arith);
             item = reads .2;
             fits = omega (arith, o .0, same-size edges (λ H U. walk (schemaOf schema) H (conceptAt view at) (root .start) (standing h) U) x);
             places = omega (arith, o .1);
@@ -157,7 +148,8 @@ module _ {schema view edges objects : List ℕ} {root : Root} {at : ℕ} {h : He
     pub reached-walked : {r : Here} {after : List ℕ} → Trekked schema view edges objects root at h after r
         → Walked schema view edges objects root (suc at) h after (r .size)
     reached-walked {r} {after} y =
-        subst (λ (C : Concept). Grows (root .ground) (h .size) (r .size) objects after (walked schema edges objects root h C)) (sym (reads-path .0)) (y .grows)
+        subst (λ (C : Concept). Grows (root .ground) (h .size) (r .size) objects after (walked schema edges objects root h C)) (sym (reads-path .0))
+        (y .grows)
 
   -- a common object
   module _ (is : tokenAt view at ≡ Common) where
@@ -186,7 +178,7 @@ module _ {schema view edges objects : List ℕ} {root : Root} {at : ℕ} {h : He
           let o = of (common (pathAt view (startOf view at 1)) (pathAt view at)) (reads-paths .0) in
           record {
             walking =
-                earlier (later (can .walking) (x .grows) (grown h (q .size)) refl (stands-grown (can .walking .stands) (x .grows .more)))
+                earlier (later (can .walking) (x .grows) (grown h (q .size)) refl (stands-grown (can .walking .ready .stands) (x .grows .more)))
                 at (omega arith);
             item = reads-paths .2;
             fits = omega (arith, o .0, same-size edges (λ H U. trek (schemaOf schema) H (pathAt view at) (root .start) (standing h) U .0) (x .grows));
@@ -227,18 +219,17 @@ module _ {schema view edges objects : List ℕ} {root : Root} {h : Here} (step :
   abbrev landing : Concept
   landing = conceptAt view at
 
+  abbrev before : Forest × List ℕ
+  before = trekked schema edges objects root h first
+
   -- the model's forest with the values made, and its list after the step
   abbrev valued : Forest
-  valued =
-      makeBy step S G
-      (s ∷ trekked schema edges objects root h first .1)
-      (trekked schema edges objects root h first .0)
+  valued = makeBy step S G (s ∷ before .1) (before .0)
 
   abbrev landed : List ℕ
-  landed = nextBy step G valued (s ∷ trekked schema edges objects root h first .1)
+  landed = nextBy step G valued (s ∷ before .1)
 
-  step-is : trekked schema edges objects root h (pathAt view (suc at))
-      ≡ (walk S G landing s landed valued, landed)
+  step-is : trekked schema edges objects root h (pathAt view (suc at)) ≡ (walk S G landing s landed valued, landed)
   step-is = ap (trekked schema edges objects root h) (reads-step .0)
 
   fits : size G (walk S G landing s landed valued) ≤ maxObjects
@@ -255,19 +246,14 @@ module _ {schema view edges objects : List ℕ} {root : Root} {h : Here} (step :
       record {
         walking = earlier (can .walking) (startOf view at 1) (omega (arith, start-le view at 1));
         item = reads-step .3;
-        fits =
-            omega (
-              arith,
-              fits-valued,
-              makeFor-more S G (heading step) (step .attribute)
-                  (s ∷ trekked schema edges objects root h first .1)
-                  (trekked schema edges objects root h first .0),
-            );
+        fits = omega (arith, fits-valued, makeFor-more S G (heading step) (step .attribute) (s ∷ before .1) (before .0));
         places = omega (arith, places);
       }
 
   attribute : step .attribute < maxAttributes
-  attribute = step-attribute schema view (can .walking .sound) (can .walking .legal) at (step .attribute) (step .backward) (omega (arith, can .walking .within)) is
+  attribute =
+      step-attribute schema view (can .walking .sound) (can .walking .legal) at (step .attribute) (step .backward)
+      (omega (arith, can .walking .within)) is
 
   -- after the path
   module _ {q : Here} {a : List ℕ} (x : Trekked schema view edges objects root (startOf view at 1) h a q) where
@@ -278,28 +264,23 @@ module _ {schema view edges objects : List ℕ} {root : Root} {h : Here} (step :
           arith,
           listed (x .stands),
           ap length (x .list),
-          listed (can .walking .stands),
+          listed (can .walking .ready .stands),
           trek-size S G first s (standing h) (forestIn g (h .size) objects) (h .count)
-              (omega (arith, listed (can .walking .stands))) .1,
+              (omega (arith, listed (can .walking .ready .stands))) .1,
         )
 
     pub step-make : CanMakeFor schema edges a root step q
     step-make =
         record {
           legal = can .walking .legal;
-          kept = x .grows .kept;
+          ready = ready-after (can .walking .ready) (x .grows) q refl (x .stands);
           attribute = attribute;
-          start = omega (arith, can .walking .start, x .grows .more);
-          stands = x .stands;
           fits =
               omega (
                 arith,
                 fits-valued,
                 same-size edges (λ H U. makeBy step S H (s ∷ standing q) U) (x .grows),
-                ap
-                    (λ (l : List ℕ). size G
-                    (makeBy step S G (s ∷ l)
-                    (trekked schema edges objects root h first .0))) (x .list),
+                ap (λ (l : List ℕ). size G (makeBy step S G (s ∷ l) (before .0))) (x .list),
               );
         }
 
@@ -307,18 +288,13 @@ module _ {schema view edges objects : List ℕ} {root : Root} {h : Here} (step :
     module _ {n : ℕ} {b : List ℕ} (made : Grows g (q .size) n a b (madeFor schema edges a root step q)) where
       sofar : Grows g (h .size) n objects b valued
       sofar =
-          subst
-          (λ (l : List ℕ). Grows g (h .size) n objects b
-          (makeBy step S G (s ∷ l)
-          (trekked schema edges objects root h first .0))) (x .list)
+          subst (λ (l : List ℕ). Grows g (h .size) n objects b (makeBy step S G (s ∷ l) (before .0))) (x .list)
           (grows-then edges (λ H U. makeBy step S H (s ∷ standing q) U) (x .grows) made)
 
-      pub step-next : Kept g n b × (step .attribute < maxAttributes) × (s < n) × Stands (grown q n) × (q .count < maxPlaces)
+      pub step-next : Ready b root (grown q n) × (step .attribute < maxAttributes) × (q .count < maxPlaces)
       step-next = (
-        made .kept,
+        ready-after (can .walking .ready) sofar (grown q n) refl (stands-grown (x .stands) (made .more)),
         attribute,
-        omega (arith, can .walking .start, sofar .more),
-        stands-grown (x .stands) (made .more),
         omega (arith, short, places),
       )
 
@@ -331,8 +307,7 @@ module _ {schema view edges objects : List ℕ} {root : Root} {h : Here} (step :
             (ground-kept g b objects edges (sofar .ground)) (sofar .value)
             ∙ ap (λ (l : List ℕ). nextBy step G valued (s ∷ l)) (x .list)
 
-        landing-is : walked schema edges b root w landing
-            ≡ walk S (groundIn g b edges) landing s landed (forestIn g n b)
+        landing-is : walked schema edges b root w landing ≡ walk S (groundIn g b edges) landing s landed (forestIn g n b)
         landing-is =
             ap₂ (λ (l : List ℕ) (k : ℕ). walk S (groundIn g b edges) landing s l (forestIn g k b)) list-is (f .size)
 
@@ -383,9 +358,10 @@ module _ {schema view edges objects : List ℕ} {root : Root} {e : ℕ} {h : Her
     pub walk-leaf : OneOf leaf-tags (tagOf the-type (tokenAt view (e - 1))) → Walked schema view edges objects root e h objects (h .size)
     walk-leaf k =
         walk-to
-        (grows-self (can .walking .kept)
+        (grows-self (can .walking .ready .kept)
         (sym
-        (leaf-walk (schemaOf schema) (groundIn (root .ground) objects edges) view (e - 1) (root .start) (standing h) (forestIn (root .ground) (h .size) objects)
+        (leaf-walk (schemaOf schema) (groundIn (root .ground) objects edges) view (e - 1) (root .start) (standing h)
+        (forestIn (root .ground) (h .size) objects)
         (tokenAt view (e - 1)) k (concept-token view e (can .item) refl))))
 
   module _ (can : CanTrek schema view edges objects root e h) where
@@ -408,7 +384,7 @@ module _ {schema view edges objects : List ℕ} {root : Root} {e : ℕ} {h : Her
         = ap (trekked schema edges objects root h) (path-token view e (can .item) is .0) in
         trek-to
         (record {
-          grows = grows-self (can .walking .kept) (sym (ap (λ (x : Forest × List ℕ). x .0) q));
+          grows = grows-self (can .walking .ready .kept) (sym (ap (λ (x : Forest × List ℕ). x .0) q));
           list = sym (ap (λ (x : Forest × List ℕ). x .1) q);
-          stands = can .walking .stands;
+          stands = can .walking .ready .stands;
         })

@@ -3,8 +3,9 @@ use Prim.Native.Nat.{ℕ, _≤_, _<_, _^_}
 use mathlib.Core.List.{List}
 use mathlib.Core.Path.{_≡_}
 use lib.ListN.{getD, take}
-use Rattle.chase.specs.Forest.{Forest}
-use Rattle.ground.specs.Objects.{classesIn, makerIn, forestIn, Laid}
+use Rattle.records.specs.Layout.{maxObjects}
+use Rattle.chase.specs.Forest.{Forest, size}
+use Rattle.ground.specs.Objects.{classesIn, makerIn, forestIn, groundIn, Laid}
 
 -- n objects, the first g of the ground
 pub record Kept (g n : ℕ) (objects : List ℕ) : Type 0 where
@@ -18,3 +19,7 @@ pub record Grows (g n r : ℕ) (before after : List ℕ) (T : Forest) : Type 0 w
   pub kept : Kept g r after
   pub more : n ≤ r
   pub ground : take g after ≡ take g before
+
+-- there is room for the forest T
+abbrev pub Fits : ℕ → List ℕ → List ℕ → Forest → Type 0
+Fits g objects edges T = size (groundIn g objects edges) T ≤ maxObjects

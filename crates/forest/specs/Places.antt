@@ -13,6 +13,7 @@ use Rattle.ground.specs.Objects.{forestIn, groundIn}
 use Rattle.forest.specs.declared.places.Root.{Root}
 use Rattle.forest.specs.declared.places.Step.{Step}
 use Rattle.forest.specs.declared.places.Here.{Here}
+use Rattle.forest.specs.Kept.{Kept}
 
 abbrev pub maxPlaces : ℕ
 maxPlaces = viewSteps
@@ -26,6 +27,12 @@ pub record Stands (h : Here) : Type 0 where
   pub room : length (h .at) ≡ maxPlaces
   pub few : h .count ≤ maxPlaces
   pub inside : (i : ℕ) → i < h .count → getD (h .at) i 0 < h .size
+
+-- the objects, the start and the list are in order
+pub record Ready (objects : List ℕ) (root : Root) (h : Here) : Type 0 where
+  pub kept : Kept (root .ground) (h .size) objects
+  pub start : root .start < h .size
+  pub stands : Stands h
 
 -- n objects, and none on the list
 pub record Begins (n : ℕ) (r : Here) : Type 0 where
@@ -45,9 +52,6 @@ pub record Pushed (h : Here) (k : ℕ) (r : Here) : Type 0 where
 abbrev pub heading : Step → Direction
 heading step = directionOf (step .backward)
 
-abbrev pub hopBy : Step → Ground → Forest → ℕ → ℕ
-hopBy step G T d = hop G T (heading step) (step .attribute) d
-
 abbrev pub nextBy : Step → Ground → Forest → List ℕ → List ℕ
 nextBy step G T l = next G T (heading step) (step .attribute) l
 
@@ -56,7 +60,7 @@ makeBy step S G l T = makeFor S G (heading step) (step .attribute) l T
 
 -- r is where the step leads from d, if anywhere
 pub record Hopped (g n : ℕ) (objects : List ℕ) (step : Step) (d r : ℕ) : Type 0 where
-  pub value : (edges : List ℕ) → r ≡ hopBy step (groundIn g objects edges) (forestIn g n objects) d
+  pub value : (edges : List ℕ) → r ≡ hop (groundIn g objects edges) (forestIn g n objects) (heading step) (step .attribute) d
   pub inside : r ≤ n
 
 -- r has the list after the step

@@ -1,10 +1,10 @@
 -- What the walk of the view asks and promises: of the concept, or of the path, that ends at token e.
-use Prim.Native.Nat.{ℕ, _+_, _≤_, _<_}
+use Prim.Native.Nat.{ℕ, _+_, _≤_}
 use mathlib.Core.List.{List}
 use mathlib.Core.Path.{_≡_}
 use lib.ListN.{take}
 use Rattle.records.specs.Concept.{Concept, Path}
-use Rattle.records.specs.Layout.{conceptLayout, entries, viewSteps, maxObjects}
+use Rattle.records.specs.Layout.{conceptLayout, entries, viewSteps}
 use Rattle.records.specs.SchemaRecord.{signatureOf, schemaOf}
 use Rattle.records.specs.ConceptRecord.{conceptOf}
 use Rattle.records.specs.SchemaRefusal.{AcceptedSchema}
@@ -16,37 +16,39 @@ use Rattle.chase.specs.Bounds.{maxForest}
 use Rattle.ground.specs.Objects.{forestIn, groundIn}
 use Rattle.forest.specs.declared.places.Root.{Root}
 use Rattle.forest.specs.declared.places.Here.{Here}
-use Rattle.forest.specs.Kept.{Kept, Grows}
-use Rattle.forest.specs.Places.{standing, Stands}
+use Rattle.forest.specs.Kept.{Kept, Grows, Fits}
+use Rattle.forest.specs.Places.{standing, Stands, Ready}
 
 -- the records, the objects and the list are in order, and e is a place of the view
 pub record Walking (schema view objects : List ℕ) (root : Root) (e : ℕ) (h : Here) : Type 0 where
   pub legal : AcceptedSchema schema
   pub sound : AcceptedConcept viewSteps (signatureOf schema) view
   pub within : e ≤ entries conceptLayout view
-  pub kept : Kept (root .ground) (h .size) objects
-  pub start : root .start < h .size
-  pub stands : Stands h
+  pub ready : Ready objects root h
 
 -- the model's walk from the start
 module _ (schema edges objects : List ℕ) (root : Root) (h : Here) where
   abbrev pub walked : Concept → Forest
-  walked C = walk (schemaOf schema) (groundIn (root .ground) objects edges) C (root .start) (standing h) (forestIn (root .ground) (h .size) objects)
+  walked C =
+      walk (schemaOf schema) (groundIn (root .ground) objects edges) C (root .start) (standing h)
+      (forestIn (root .ground) (h .size) objects)
 
   abbrev pub trekked : Path → Forest × List ℕ
-  trekked p = trek (schemaOf schema) (groundIn (root .ground) objects edges) p (root .start) (standing h) (forestIn (root .ground) (h .size) objects)
+  trekked p =
+      trek (schemaOf schema) (groundIn (root .ground) objects edges) p (root .start) (standing h)
+      (forestIn (root .ground) (h .size) objects)
 
 -- there is room for what it makes
 pub record CanWalk (schema view edges objects : List ℕ) (root : Root) (e : ℕ) (h : Here) : Type 0 where
   pub walking : Walking schema view objects root e h
   pub item : HasConcept view e
-  pub fits : size (groundIn (root .ground) objects edges) (walked schema edges objects root h (conceptAt view e)) ≤ maxObjects
+  pub fits : Fits (root .ground) objects edges (walked schema edges objects root h (conceptAt view e))
   pub places : h .count + conceptSteps (conceptAt view e) ≤ viewSteps
 
 pub record CanTrek (schema view edges objects : List ℕ) (root : Root) (e : ℕ) (h : Here) : Type 0 where
   pub walking : Walking schema view objects root e h
   pub item : HasPath view e
-  pub fits : size (groundIn (root .ground) objects edges) (trekked schema edges objects root h (pathAt view e) .0) ≤ maxObjects
+  pub fits : Fits (root .ground) objects edges (trekked schema edges objects root h (pathAt view e) .0)
   pub places : h .count + pathSteps (pathAt view e) ≤ viewSteps
 
 -- what it leaves

@@ -13,25 +13,30 @@ ghost use Rattle.forest.specs.Kept.{Grows};
 ghost use Rattle.forest.specs.Places.{madeFor};
 ghost use Rattle.forest.specs.Making.{madeAt, madeAll, CanMake, CanMakeAll, CanMakeFor};
 
+// An attribute, and the classes that need a value of it.
+struct Need {
+    attribute: usize,
+    mask: u32,
+}
+
 // The value of the attribute at an object, if it lacks one. Returns how many objects there are then.
 fn make(
     schema: &[u16],
     edges: &[u16],
     g: usize,
     n: usize,
-    mask: u32,
-    attribute: usize,
+    need: Need,
     d: usize,
     objects: &mut [u64; OBJECTS],
 ) -> usize
-    requires { ⌜ CanMake (now schema) (now edges) (now objects) g n mask attribute d ⌝ }
-    ensures { λ r. ⌜ Grows g n r (now (objects .entry)) (now (objects .exit)) (madeAt (now (schema .entry)) (now (edges .entry)) (now (objects .entry)) g n attribute d) ⌝ }
+    requires { ⌜ CanMake (now schema) (now edges) (now objects) g n need d ⌝ }
+    ensures { λ r. ⌜ Grows g n r (now (objects .entry)) (now (objects .exit)) (madeAt (now (schema .entry)) (now (edges .entry)) (now (objects .entry)) g n need d) ⌝ }
 {
-    if !lacks(edges, objects, g, n, mask, attribute, d) {
+    if !lacks(edges, objects, g, n, need.mask, need.attribute, d) {
         return n;
     }
-    let set = image(schema, classes_at(objects, d), attribute);
-    objects[n] = word(set, attribute, d);
+    let set = image(schema, classes_at(objects, d), need.attribute);
+    objects[n] = word(set, need.attribute, d);
     n + 1
 }
 
@@ -41,27 +46,17 @@ fn make_all(
     edges: &[u16],
     g: usize,
     n: usize,
-    mask: u32,
-    attribute: usize,
+    need: Need,
     list: &[u16],
     objects: &mut [u64; OBJECTS],
 ) -> usize
-    requires { ⌜ CanMakeAll (now schema) (now edges) (now objects) g n mask attribute (now list) ⌝ }
-    ensures { λ r. ⌜ Grows g n r (now (objects .entry)) (now (objects .exit)) (madeAll (now (schema .entry)) (now (edges .entry)) (now (objects .entry)) g n attribute (now (list .entry))) ⌝ }
+    requires { ⌜ CanMakeAll (now schema) (now edges) (now objects) g n need (now list) ⌝ }
+    ensures { λ r. ⌜ Grows g n r (now (objects .entry)) (now (objects .exit)) (madeAll (now (schema .entry)) (now (edges .entry)) (now (objects .entry)) g n need (now (list .entry))) ⌝ }
 {
     let count = list.len();
     let mut size = n;
     for i in 0..count {
-        size = make(
-            schema,
-            edges,
-            g,
-            size,
-            mask,
-            attribute,
-            wide(list[i]),
-            objects,
-        );
+        size = make(schema, edges, g, size, need, wide(list[i]), objects);
     }
     size
 }
@@ -83,10 +78,11 @@ pub fn make_for(
     }
     let attribute = step.attribute;
     let mask = needs_mask(schema, attribute);
+    let need = Need { attribute, mask };
     let g = root.ground;
     let s = root.start;
-    let n = make(schema, edges, g, here.size, mask, attribute, s, objects);
+    let n = make(schema, edges, g, here.size, need, s, objects);
     let at = here.at;
     let count = here.count;
-    make_all(schema, edges, g, n, mask, attribute, &at[..count], objects)
+    make_all(schema, edges, g, n, need, &at[..count], objects)
 }

@@ -8,7 +8,7 @@ use records::layout::wide;
 ghost use Prim.Native.Nat.{_≤_, _<_, _^_};
 ghost use Rattle.records.specs.Layout.{maxAttributes};
 ghost use Rattle.forest.specs.Kept.{Kept};
-ghost use Rattle.forest.specs.Places.{maxPlaces, Stands, Begins, Hopped, Pushed, Follows};
+ghost use Rattle.forest.specs.Places.{maxPlaces, Stands, Ready, Begins, Hopped, Pushed, Follows};
 
 // Each step leaves at most one made object more on the list.
 const PLACES: usize = View::STEPS;
@@ -73,7 +73,7 @@ fn hop(objects: &[u64; OBJECTS], g: usize, n: usize, step: Step, d: usize) -> us
 
 // The made objects after a step from the start and from those on the list.
 pub fn next(objects: &[u64; OBJECTS], root: Root, step: Step, here: Here) -> Here
-    requires { ⌜ Kept (root .ground) (here .size) (now objects) × (step .attribute < maxAttributes) × (root .start < here .size) × Stands here × (here .count < maxPlaces) ⌝ }
+    requires { ⌜ Ready (now objects) root here × (step .attribute < maxAttributes) × (here .count < maxPlaces) ⌝ }
     ensures { λ r. ⌜ Follows root (now (objects .entry)) step here r ⌝ }
 {
     let at = here.at;

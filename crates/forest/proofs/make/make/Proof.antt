@@ -11,31 +11,31 @@ use Rattle.forest.proofs.make.make.Statement.{statement}
 use Rattle.forest.proofs.make.make.Tie as tie
 
 lacks-requires : tie.Need-lacks-requires
-lacks-requires c κs = (c .before .before .before .pre .kept, c .before .before .before .pre .attribute, c .before .before .before .pre .inside)
+lacks-requires c κs = (c .before .before .before .pre .kept, c .before .before .before .pre .known .attribute, c .before .before .before .pre .inside)
 
 returns : tie.Need-returns
-returns c = make-idle (c .before .before .before .before .before .pre) (sym (c .before .lacks .ensures _ (c .before .before .before .before .before .pre .needing)) ∙ not-true _ (c .if1 .taken))
+returns c = make-idle (c .before .before .before .before .before .pre) (sym (c .before .lacks .ensures _ (c .before .before .before .before .before .pre .known .needing)) ∙ not-true _ (c .if1 .taken))
 
 classes-at-requires : tie.Need-classes-at-requires
 classes-at-requires c κs = (c .before .before .before .before .before .before .pre .kept .laid .room, omega (arith, c .before .before .before .before .before .before .pre .inside, c .before .before .before .before .before .before .pre .kept .laid .fits), c .before .before .before .before .before .before .pre .kept .sets _ (c .before .before .before .before .before .before .pre .inside))
 
 image-requires : tie.Need-image-requires
-image-requires c κs = c .before .before .before .before .before .before .before .pre .legal
+image-requires c κs = c .before .before .before .before .before .before .before .pre .known .legal
 
 word-requires : tie.Need-word-requires
-word-requires c κs = (c .before .before .before .before .before .before .before .before .pre .attribute, omega (arith, c .before .before .before .before .before .before .before .before .pre .inside, c .before .before .before .before .before .before .before .before .pre .kept .laid .fits))
+word-requires c κs = (c .before .before .before .before .before .before .before .before .pre .known .attribute, omega (arith, c .before .before .before .before .before .before .before .before .pre .inside, c .before .before .before .before .before .before .before .before .pre .kept .laid .fits))
 
 mul-objects : tie.Need-mul-objects
 mul-objects c = search needs
 
 element-write-objects : tie.Need-element-write-objects
-element-write-objects c = omega (arith, make-room (c .before .before .before .before .before .before .before .before .before .pre) (sym (c .before .before .before .before .before .lacks .ensures _ (c .before .before .before .before .before .before .before .before .before .pre .needing)) ∙ not-false _ (c .before .before .before .before .if1 .left)), c .before .before .before .before .before .before .before .before .before .pre .kept .laid .room)
+element-write-objects c = omega (arith, make-room (c .before .before .before .before .before .before .before .before .before .pre) (sym (c .before .before .before .before .before .lacks .ensures _ (c .before .before .before .before .before .before .before .before .before .pre .known .needing)) ∙ not-false _ (c .before .before .before .before .if1 .left)), c .before .before .before .before .before .before .before .before .before .pre .kept .laid .room)
 
 add-result : tie.Need-add-result
 add-result c = search needs
 
 returns-2 : tie.Need-returns-2
-returns-2 c = rw (c .word .ensures) (make-one (c .before .before .before .before .before .before .before .before .before .pre) (sym (c .before .before .before .before .before .lacks .ensures _ (c .before .before .before .before .before .before .before .before .before .pre .needing)) ∙ not-false _ (c .before .before .before .before .if1 .left)) _ (omega arith) (c .before .image .ensures ∙ ap (λ (i : ℕ). image (schemaOf (c .before .before .before .before .before .before .before .before .before .args .schema .now)) i (c .before .before .before .before .before .before .before .before .before .args .attribute)) (c .before .before .classes-at .ensures)))
+returns-2 c = rw (c .word .ensures) (make-one (c .before .before .before .before .before .before .before .before .before .pre) (sym (c .before .before .before .before .before .lacks .ensures _ (c .before .before .before .before .before .before .before .before .before .pre .known .needing)) ∙ not-false _ (c .before .before .before .before .if1 .left)) _ (omega arith) (c .before .image .ensures ∙ ap (λ (i : ℕ). image (schemaOf (c .before .before .before .before .before .before .before .before .before .args .schema .now)) i (c .before .before .before .before .before .before .before .before .before .args .need .attribute)) (c .before .before .classes-at .ensures)))
 
 pub make-spec : {M : Type 1} → statement M
 make-spec =

@@ -18,10 +18,10 @@ begin-requires : tie.Need-begin-requires Inv-loop μ-loop
 begin-requires c κs = tt
 
 hop-requires : tie.Need-hop-requires Inv-loop μ-loop
-hop-requires c κs = (c .before .before .pre .0, c .before .before .pre .1, c .before .before .pre .2)
+hop-requires c κs = (c .before .before .pre .0 .kept, c .before .before .pre .1, c .before .before .pre .0 .start)
 
 push-requires : tie.Need-push-requires Inv-loop μ-loop
-push-requires c κs = (c .before .begin .ensures .stands, omega (arith, c .before .begin .ensures .count), omega (arith, c .before .begin .ensures .size, c .before .before .before .pre .0 .laid .fits), omega (arith, c .before .begin .ensures .size, c .hop .ensures .inside))
+push-requires c κs = (c .before .begin .ensures .stands, omega (arith, c .before .begin .ensures .count), omega (arith, c .before .begin .ensures .size, c .before .before .before .pre .0 .kept .laid .fits), omega (arith, c .before .begin .ensures .size, c .hop .ensures .inside))
 
 loop-holds : tie.Need-loop-holds Inv-loop μ-loop
 loop-holds c = (omega arith, after-none _ _ _ _ (c .before .before .begin .ensures) (c .before .hop .ensures) (c .push .ensures))
@@ -36,10 +36,10 @@ wide-requires : tie.Need-wide-requires Inv-loop μ-loop
 wide-requires c κs = tt
 
 hop-requires-2 : tie.Need-hop-requires-2 Inv-loop μ-loop
-hop-requires-2 c κs = (c .before .before .before .before .before .before .before .pre .0, c .before .before .before .before .before .before .before .pre .1, omega (arith, c .wide .ensures, c .before .before .before .before .before .before .before .pre .3 .inside _ (c .before .loop-test .taken)))
+hop-requires-2 c κs = (c .before .before .before .before .before .before .before .pre .0 .kept, c .before .before .before .before .before .before .before .pre .1, omega (arith, c .wide .ensures, c .before .before .before .before .before .before .before .pre .0 .stands .inside _ (c .before .loop-test .taken)))
 
 push-requires-2 : tie.Need-push-requires-2 Inv-loop μ-loop
-push-requires-2 c κs = (c .before .before .before .loop .inv .1 .stands, omega (arith, c .before .before .before .loop .inv .1 .more, c .before .before .loop-test .taken, c .before .before .before .before .before .before .before .before .pre .4), omega (arith, c .before .before .before .loop .inv .1 .size, c .before .before .before .before .before .before .before .before .pre .0 .laid .fits), omega (arith, c .before .before .before .loop .inv .1 .size, c .hop2 .ensures .inside))
+push-requires-2 c κs = (c .before .before .before .loop .inv .1 .stands, omega (arith, c .before .before .before .loop .inv .1 .more, c .before .before .loop-test .taken, c .before .before .before .before .before .before .before .before .pre .2), omega (arith, c .before .before .before .loop .inv .1 .size, c .before .before .before .before .before .before .before .before .pre .0 .kept .laid .fits), omega (arith, c .before .before .before .loop .inv .1 .size, c .hop2 .ensures .inside))
 
 add-i : tie.Need-add-i Inv-loop μ-loop
 add-i c = search needs
@@ -48,10 +48,10 @@ loop-less : tie.Need-loop-less Inv-loop μ-loop
 loop-less c = search needs
 
 loop-again : tie.Need-loop-again Inv-loop μ-loop
-loop-again c = (omega arith, after-more _ _ _ _ (c .before .before .before .before .before .before .before .before .before .pre .3) (c .before .before .before .loop-test .taken) (c .before .before .wide .ensures) (c .before .before .before .before .loop .inv .1) (c .before .hop2 .ensures) (c .push2 .ensures))
+loop-again c = (omega arith, after-more _ _ _ _ (c .before .before .before .before .before .before .before .before .before .pre .0 .stands) (c .before .before .before .loop-test .taken) (c .before .before .wide .ensures) (c .before .before .before .before .loop .inv .1) (c .before .hop2 .ensures) (c .push2 .ensures))
 
 returns : tie.Need-returns Inv-loop μ-loop
-returns c = after-all _ _ _ _ (c .before .before .before .before .before .before .pre .3) (c .before .loop .inv .0) (c .loop-test .left) (c .before .loop .inv .1)
+returns c = after-all _ _ _ _ (c .before .before .before .before .before .before .pre .0 .stands) (c .before .loop .inv .0) (c .loop-test .left) (c .before .loop .inv .1)
 
 pub next-spec : {M : Type 1} → statement M
 next-spec =
