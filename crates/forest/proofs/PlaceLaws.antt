@@ -8,7 +8,7 @@ use mathlib.Core.List.{List, [], _∷_, _++_, append-nil}
 use mathlib.Core.Path.{_≡_, refl, sym, ap, ap₂, subst, _∙_}
 use lib.Dec.{eqb}
 use lib.ListN.{length, getD, set, take, length-set}
-use lib.Seq.{take-suc, take-suc-set, take-all, getD-take, getD-set-same, getD-set-other, length-take-le}
+use lib.Seq.{take-suc, take-suc-set, getD-set-same, getD-set-other}
 use Rattle.records.specs.Concept.{Direction, directionOf}
 use Rattle.chase.specs.Ground.{Ground}
 use Rattle.chase.specs.Forest.{Forest, size, kid, parent, push, hop, next}
@@ -110,19 +110,12 @@ module _ (G : Ground) (T : Forest) (r : Direction) (P : ℕ) where
   next-more s l i h =
       ap (λ (m : List ℕ). next G T r P (s ∷ m)) (take-suc l i 0 h) ∙ next-append (s ∷ take i l) (getD l i 0 ∷ [])
 
-module _ (root : Root) (objects : List ℕ) (step : Step) where
-  -- after the first i of the list
-  pub record After (n : ℕ) (l : List ℕ) (i : ℕ) (r : Here) : Type 0 where
-    pub list : (edges : List ℕ)
-        → standing r ≡ nextBy step (groundIn (root .ground) objects edges) (forestIn (root .ground) n objects) (root .start ∷ take i l)
-    pub stands : Stands r
-    pub size : r .size ≡ n
-    pub more : r .count ≤ i + 1
-
-  pub after-none : {n k : ℕ} {b r : Here} (l : List ℕ) → Begins n b → Hopped (root .ground) n objects step (root .start) k
+-- .. as the loop makes it
+module _ {root : Root} {objects : List ℕ} {step : Step} {h : Here} where
+  pub follows-none : {k : ℕ} {b r : Here} → Begins (h .size) b → Hopped (root .ground) (h .size) objects step (root .start) k
       → Pushed b k r
-      → After n l 0 r
-  after-none {n} {k} {b} {r} l begins hopped pushed =
+      → Follows root objects step h 0 r
+  follows-none {k} begins hopped pushed =
       record {
         list = λ edges.
             pushed .list ∙ ap (λ (m : List ℕ). m ++ push k []) (begins .list) ∙ ap (λ (i : ℕ). push i []) (hopped .value edges);
@@ -131,35 +124,26 @@ module _ (root : Root) (objects : List ℕ) (step : Step) where
         more = omega (arith, pushed .more, begins .count);
       }
 
-  pub after-more : {h b r : Here} {k d : ℕ} (i : ℕ) → Stands h → i < h .count → d ≡ getD (h .at) i 0
-      → After (h .size) (standing h) i b → Hopped (root .ground) (h .size) objects step d k → Pushed b k r
-      → After (h .size) (standing h) (i + 1) r
-  after-more {h} {b} {r} {k} {d} i stands l e after hopped pushed =
-      let long : length (standing h) ≡ h .count
-      = length-take-le (h .count) (h .at) (omega (arith, stands .few, stands .room)) in
+  pub follows-more : {b r : Here} {k d i : ℕ} → Stands h → i < h .count → d ≡ getD (h .at) i 0 → Follows root objects step h i b
+      → Hopped (root .ground) (h .size) objects step d k
+      → Pushed b k r
+      → Follows root objects step h (i + 1) r
+  follows-more {i = i} stands l e before hopped pushed =
       record {
         list = λ edges.
             let G = groundIn (root .ground) objects edges in
             let T = forestIn (root .ground) (h .size) objects in
-            pushed .list ∙ ap₂ (λ (m : List ℕ) (j : ℕ). m ++ push j []) (after .list edges) (hopped .value edges)
-            ∙ ap (λ (j : ℕ). nextBy step G T (root .start ∷ take i (standing h)) ++ push (hop G T (heading step) (step .attribute) j) [])
-            (e ∙ sym (getD-take (h .count) (h .at) i 0 l))
-            ∙ rw add-one (sym (next-more G T (heading step) (step .attribute) (root .start) (standing h) i (omega (arith, long))));
+            pushed .list ∙ ap₂ (λ (m : List ℕ) (j : ℕ). m ++ push j []) (before .list edges) (hopped .value edges)
+            ∙ ap (λ (j : ℕ). nextBy step G T (root .start ∷ take i (h .at)) ++ push (hop G T (heading step) (step .attribute) j) []) e
+            ∙ rw add-one
+            (sym (next-more G T (heading step) (step .attribute) (root .start) (h .at) i (omega (arith, stands .few, stands .room))));
         stands = pushed .stands;
-        size = pushed .size ∙ after .size;
-        more = omega (arith, pushed .more, after .more);
+        size = pushed .size ∙ before .size;
+        more = omega (arith, pushed .more, before .more);
       }
 
-  pub after-all : {h r : Here} (i : ℕ) → Stands h → i ≤ h .count → h .count ≤ i
-      → After (h .size) (standing h) i r → Follows root objects step h r
-  after-all {h} {r} i stands a b after =
-      record {
-        list = λ edges.
-            after .list edges
-            ∙ ap (λ (m : List ℕ). nextBy step (groundIn (root .ground) objects edges) (forestIn (root .ground) (h .size) objects) (root .start ∷ m))
-            (take-all i (standing h)
-            (omega (arith, length-take-le (h .count) (h .at) (omega (arith, stands .few, stands .room)))));
-        stands = after .stands;
-        size = after .size;
-        more = omega (arith, after .more);
-      }
+  pub follows-all : {r : Here} {i : ℕ} → i ≤ h .count → h .count ≤ i → Follows root objects step h i r
+      → Follows root objects step h (h .count) r
+  follows-all {r} {i} a b f =
+      let q : i ≡ h .count = omega arith in
+      subst (λ (j : ℕ). Follows root objects step h j r) q f

@@ -299,7 +299,7 @@ module _ {schema view edges objects : List ℕ} {root : Root} {h : Here} (step :
       )
 
       -- after the list was made
-      module _ {w : Here} (f : Follows root b step (grown q n) w) where
+      module _ {w : Here} (f : Follows root b step (grown q n) (q .count) w) where
         list-is : standing w ≡ landed
         list-is =
             f .list edges

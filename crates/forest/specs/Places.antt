@@ -63,13 +63,14 @@ pub record Hopped (g n : ℕ) (objects : List ℕ) (step : Step) (d r : ℕ) : T
   pub value : (edges : List ℕ) → r ≡ hop (groundIn g objects edges) (forestIn g n objects) (heading step) (step .attribute) d
   pub inside : r ≤ n
 
--- r has the list after the step
-pub record Follows (root : Root) (objects : List ℕ) (step : Step) (h r : Here) : Type 0 where
+-- r has the list after the step, from the start and from the first i on the list
+pub record Follows (root : Root) (objects : List ℕ) (step : Step) (h : Here) (i : ℕ) (r : Here) : Type 0 where
   pub list : (edges : List ℕ)
-      → standing r ≡ nextBy step (groundIn (root .ground) objects edges) (forestIn (root .ground) (h .size) objects) (root .start ∷ standing h)
+      → standing r
+      ≡ nextBy step (groundIn (root .ground) objects edges) (forestIn (root .ground) (h .size) objects) (root .start ∷ take i (h .at))
   pub stands : Stands r
   pub size : r .size ≡ h .size
-  pub more : r .count ≤ h .count + 1
+  pub more : r .count ≤ i + 1
 
 -- the values that the start and those on the list lack before a step
 abbrev pub madeFor : List ℕ → List ℕ → List ℕ → Root → Step → Here → Forest

@@ -74,7 +74,7 @@ fn hop(objects: &[u64; OBJECTS], g: usize, n: usize, step: Step, d: usize) -> us
 // The made objects after a step from the start and from those on the list.
 pub fn next(objects: &[u64; OBJECTS], root: Root, step: Step, here: Here) -> Here
     requires { ⌜ Ready (now objects) root here × (step .attribute < maxAttributes) × (here .count < maxPlaces) ⌝ }
-    ensures { λ r. ⌜ Follows root (now (objects .entry)) step here r ⌝ }
+    ensures { λ r. ⌜ Follows root (now (objects .entry)) step here (here .count) r ⌝ }
 {
     let at = here.at;
     let n = here.size;

@@ -1,15 +1,15 @@
 -- The list after the step, of the objects passed.
 use Prim.Native.Nat.{_-_, _≤_}
 use native.Mathlib.Omega.{arith}
-use lib.ListN.{take}
 use borrow.Author.Needs.{needs}
-use Rattle.forest.proofs.PlaceLaws.{After, after-none, after-more, after-all}
+use Rattle.forest.specs.Places.{Follows}
+use Rattle.forest.proofs.PlaceLaws.{follows-none, follows-more, follows-all}
 use Rattle.forest.proofs.places.next.Statement.{statement}
 use Rattle.forest.proofs.places.next.Tie as tie
 
 abbrev Inv-loop : tie.InvT-loop
 Inv-loop objects root step at n after₀ count i₀ after i =
-    (i ≤ count) × After root objects step n (take count at) i after
+    (i ≤ count) × Follows root objects step (record { size = n; count = count; at = at }) i after
 
 abbrev μ-loop : tie.MeasureT-loop
 μ-loop objects root step at n after₀ count i₀ after i = count - i
@@ -24,7 +24,7 @@ push-requires : tie.Need-push-requires Inv-loop μ-loop
 push-requires c κs = (c .before .begin .ensures .stands, omega (arith, c .before .begin .ensures .count), omega (arith, c .before .begin .ensures .size, c .before .before .before .pre .0 .kept .laid .fits), omega (arith, c .before .begin .ensures .size, c .hop .ensures .inside))
 
 loop-holds : tie.Need-loop-holds Inv-loop μ-loop
-loop-holds c = (omega arith, after-none _ _ _ _ (c .before .before .begin .ensures) (c .before .hop .ensures) (c .push .ensures))
+loop-holds c = (omega arith, follows-none (c .before .before .begin .ensures) (c .before .hop .ensures) (c .push .ensures))
 
 mul-wide : tie.Need-mul-wide Inv-loop μ-loop
 mul-wide c = search needs
@@ -48,10 +48,10 @@ loop-less : tie.Need-loop-less Inv-loop μ-loop
 loop-less c = search needs
 
 loop-again : tie.Need-loop-again Inv-loop μ-loop
-loop-again c = (omega arith, after-more _ _ _ _ (c .before .before .before .before .before .before .before .before .before .pre .0 .stands) (c .before .before .before .loop-test .taken) (c .before .before .wide .ensures) (c .before .before .before .before .loop .inv .1) (c .before .hop2 .ensures) (c .push2 .ensures))
+loop-again c = (omega arith, follows-more (c .before .before .before .before .before .before .before .before .before .pre .0 .stands) (c .before .before .before .loop-test .taken) (c .before .before .wide .ensures) (c .before .before .before .before .loop .inv .1) (c .before .hop2 .ensures) (c .push2 .ensures))
 
 returns : tie.Need-returns Inv-loop μ-loop
-returns c = after-all _ _ _ _ (c .before .before .before .before .before .before .pre .0 .stands) (c .before .loop .inv .0) (c .loop-test .left) (c .before .loop .inv .1)
+returns c = follows-all (c .before .loop .inv .0) (c .loop-test .left) (c .before .loop .inv .1)
 
 pub next-spec : {M : Type 1} → statement M
 next-spec =
