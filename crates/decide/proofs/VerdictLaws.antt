@@ -9,10 +9,9 @@ use native.Mathlib.Omega.{arith}
 use borrow.Author.Tests.{le-ltb}
 use lib.Dec.{ltb}
 use lib.ListN.{length, drop}
-use Rattle.records.specs.Layout.{maxObjects, maxStateWords}
+use Rattle.records.specs.Layout.{maxStateWords}
 use Rattle.records.specs.Schema.{Schema}
 use Rattle.records.specs.Concept.{Concept}
-use Rattle.records.specs.Executable.{isIn}
 use Rattle.records.specs.Encoding.{stateRecord}
 use Rattle.records.specs.Subsumption.{Counterexample, Open, Held}
 use Rattle.records.specs.SchemaRecord.{signatureOf, schemaOf}
@@ -30,7 +29,6 @@ use Rattle.chase.proofs.AcceptanceLaws.{Within, accepted-within}
 use Rattle.chase.proofs.WrittenLaws.{facts-few, written-length, written-size}
 use Rattle.candidate.specs.declared.number.Sizes.{Sizes}
 use Rattle.construct.specs.Arrays.{Triple, startIn, listing, Arrays}
-use Rattle.decide.specs.declared.DecideAnswer.{DecideAnswer}
 use Rattle.decide.specs.declared.DecideAnswer.the-variants as answers
 use Rattle.decide.specs.Decision.{Shown, Verdict}
 use Rattle.decide.specs.Start.{startInside, startAnswer, startWords, Judged, Listable, Told}

@@ -17,7 +17,7 @@ ghost use mathlib.Core.Path.{_≡_};
 ghost use Prim.Native.Nat.{_≤_};
 ghost use lib.ListN.{length};
 ghost use Rattle.records.specs.Layout.{maxStateWords};
-ghost use Rattle.chase.specs.Task.{nodes as nodesOf, taskOf};
+ghost use Rattle.chase.specs.Task.{nodes as nodesOf};
 ghost use Rattle.chase.specs.Primary.{clash};
 ghost use Rattle.primary.specs.Asked.{queryTask};
 ghost use Rattle.construct.specs.Arrays.{Triple, startIn, listing};

@@ -1,25 +1,21 @@
 -- What the facts of an accepted state tell: they name objects of the state, and the index says which.
-use Prim.Native.Nat.{ℕ, _+_, _*_, _≤_, _<_}
-use mathlib.Core.Bool.{Bool, true, false, So, _&&_, false≢true}
+use Prim.Native.Nat.{ℕ, _+_, _≤_, _<_}
+use mathlib.Core.Bool.{Bool, true, false, So, _&&_}
 use mathlib.Core.List.{List}
 use mathlib.Core.Path.{_≡_, refl, sym, _∙_}
-use native.Mathlib.Decide.{decLt}
 use native.Mathlib.Omega.{arith}
-use borrow.Author.Tests.{lt-ltb, le-ltb, eq-eqb, eqb-true, not-false}
+use borrow.Author.Tests.{lt-ltb, eq-eqb, eqb-true}
 use lib.Dec.{eqb, ltb}
 use Rattle.records.specs.declared.schema.Signature.{Signature}
 use Rattle.records.specs.Finite.{count}
-use Rattle.records.specs.Layout.{stateLayout, entries, objectPart, attributeKinds, constantKinds, factKinds, maxObjects}
+use Rattle.records.specs.Layout.{stateLayout, entries, constantKinds, maxObjects}
 use Rattle.records.specs.StateRecord.{objects, kindAt, objectAt, says, stateOf}
-use Rattle.records.specs.StateRefusal.{faultyFact, declaresKind, namesAt}
-use Rattle.records.proofs.General.BoolLaws.{or-false-left, and-right, and-both, false-of, test-same}
+use Rattle.records.specs.StateRefusal.{faultyFact, namesAt}
+use Rattle.records.proofs.General.BoolLaws.{and-right, and-both, test-same}
 use Rattle.records.proofs.General.FiniteLaws.{any-found, count-found}
 use Rattle.records.proofs.AcceptedLaws.{passes-7, passes-8, passes-10, objects-few, fact-faultless, constant-once}
 use Rattle.records.proofs.StateScanLaws.{says-iff, fact-object, fact-second, name-is}
-use Rattle.index.proofs.BitSetLaws.{past-bits}
-use Rattle.index.proofs.IndexLaws.{index-says}
 use Rattle.evaluate.specs.Evaluable.{Evaluable}
-use Rattle.evaluate.specs.Rows.{rowBit}
 use Rattle.evaluate.specs.Steps.{endAt}
 
 module _ {s : Signature} {w v : List ℕ} (ok : Evaluable s w v) where

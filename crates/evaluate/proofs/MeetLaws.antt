@@ -1,6 +1,6 @@
 -- "Common object": the relation of a path grows by a step, since a fact that carries a row is a pair by which the step leads;
 -- and what two relations share are the origins that lead to a common object.
-use Prim.Native.Nat.{ℕ, _+_, _*_, _≤_, _<_}
+use Prim.Native.Nat.{ℕ, _+_, _*_, _<_}
 use mathlib.Core.Bool.{Bool, true, false, So, not, _&&_}
 use mathlib.Core.List.{List}
 use mathlib.Core.Logic.{inl}

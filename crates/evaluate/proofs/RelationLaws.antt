@@ -11,7 +11,6 @@ use borrow.Author.Tests.{eq-eqb, ne-eqb, eqb-true, lt-ltb, le-ltb, ltb-true}
 use lib.Bits.{bitAnd, bitOr}
 use lib.Dec.{eqb, ltb}
 use lib.ListN.{length, getD, replicate}
-use Rattle.records.specs.Finite.{any}
 use Rattle.records.specs.Layout.{stateLayout, entries}
 use Rattle.records.specs.StateRecord.{objects, kindAt}
 use Rattle.records.proofs.General.BoolLaws.{and-left, and-both, and-map, or-true-cases, or-left, or-right, test-same, eqb-same}

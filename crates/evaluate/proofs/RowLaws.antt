@@ -10,12 +10,11 @@ use lib.Bits.{bitAnd}
 use lib.Dec.{eqb, ltb}
 use lib.ListN.{length, length-set, getD, set, replicate}
 use lib.Seq.{getD-set-same, getD-set-other}
-use Rattle.records.specs.Layout.{objectPart}
 use Rattle.records.proofs.General.BoolLaws.{or-true-cases, or-left, or-right, test-same}
 use mathlib.Core.Logic.{⊎-elim}
 use Rattle.index.specs.BitSet.{wordBits, bit, bitAt, Inserted}
 use Rattle.index.proofs.BitLaws.{word-and}
-use Rattle.index.proofs.BitSetLaws.{zero-bits, past-bits}
+use Rattle.index.proofs.BitSetLaws.{zero-bits}
 use Rattle.evaluate.specs.Selection.{setWords}
 use Rattle.evaluate.specs.Rows.{rowBit, Filled, SharedRow, Row, Put, Below}
 
@@ -78,10 +77,6 @@ shared-row-of {ps} {qs} {t} {ws} {vs} e z =
 module _ (ws : List ℕ) (t : ℕ) where
   pub row-same : {vs : List ℕ} → SharedRow ws ws t vs → Row ws t vs
   row-same h = record { size = h .size; bits = λ o l. h .bits o l ∙ and-self (rowBit ws t o) }
-
-  -- past the end
-  pub row-past : length ws ≤ t * setWords → Row ws t (replicate setWords 0)
-  row-past h = record { size = refl; bits = λ o l. zero-bits setWords o ∙ sym (past-bits ws (t * objectPart + o) (omega arith)) }
 
 -- A set is a list of one row.
 pub row-zero : (ws : List ℕ) (o : ℕ) → rowBit ws 0 o ≡ bitAt ws o

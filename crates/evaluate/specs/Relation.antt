@@ -11,7 +11,6 @@ use Rattle.records.specs.Finite.{any}
 use Rattle.records.specs.State.{State}
 use Rattle.records.specs.Concept.{Path, common}
 use Rattle.records.specs.Executable.{leadsTo}
-use Rattle.records.specs.Layout.{objectPart}
 use Rattle.records.specs.StateRecord.{objects}
 use Rattle.index.specs.BitSet.{bitAt}
 use Rattle.evaluate.specs.declared.steps.Step.{Step}

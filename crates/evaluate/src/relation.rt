@@ -18,7 +18,6 @@ use records::concept::token_at;
 use records::reading::start_of;
 use records::state::objects;
 ghost use Prim.Native.Nat.{_+_, _*_, _≤_, _<_, _^_};
-ghost use mathlib.Core.Path.{_≡_};
 ghost use lib.ListN.{length};
 ghost use Rattle.records.specs.Layout.{stateLayout, entries};
 ghost use Rattle.records.specs.StateRecord.{stateOf, objects as objectsOf};

@@ -1,6 +1,5 @@
 -- The whole concept is the item that ends after the last token.
 use Rattle.evaluate.proofs.PlaceLaws.{place-last, concept-last, selection-last}
-use native.Mathlib.Omega.{arith}
 use borrow.Author.Needs.{needs}
 use Rattle.evaluate.proofs.evaluate_in.Statement.{statement}
 use Rattle.evaluate.proofs.evaluate_in.Tie as tie

@@ -1,7 +1,6 @@
 -- The choice by the concept's tokens and the number of objects.
 use borrow.Author.Tests.{not-true}
 use mathlib.Core.Path.{sym, _∙_}
-use native.Mathlib.Omega.{arith}
 use borrow.Author.Needs.{needs}
 use Rattle.evaluate.proofs.with_landings.Statement.{statement}
 use Rattle.evaluate.proofs.with_landings.Tie as tie

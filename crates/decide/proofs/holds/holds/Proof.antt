@@ -7,7 +7,7 @@ use Rattle.records.specs.Layout.{querySteps, viewSteps}
 use Rattle.records.specs.SchemaRecord.{signatureOf}
 use Rattle.records.specs.SchemaRefusal.{AcceptedSchema}
 use Rattle.records.specs.ConceptRefusal.{AcceptedConcept}
-use Rattle.records.specs.Outcome.{schemaRefusal, queryRefusal, viewRefusal}
+use Rattle.records.specs.Outcome.{schemaRefusal, queryRefusal}
 use Rattle.records.proofs.OutcomeLaws.{schema-turned, concept-turned, schema-signature, schema-passed, query-passed, view-passed}
 use Rattle.decide.proofs.HoldingLaws.{holds-decided, holds-refused}
 use Rattle.decide.proofs.holds.holds.Statement.{statement}

@@ -1,6 +1,5 @@
 -- In each size the list has room for the most facts, and what stands at its start is the candidate's facts (ListableLaws).
 use borrow.Author.Needs.{needs}
-use native.Mathlib.Omega.{arith}
 use Rattle.decide.proofs.ListableLaws.{constants-inside, start-before, start-node, limits, room, count-inside, count-is, facts-judged, answered}
 use Rattle.decide.proofs.verdict.answer_in.Statement.{statement}
 use Rattle.decide.proofs.verdict.answer_in.Tie as tie

@@ -1,6 +1,5 @@
 -- The two ways, by the number of blocks.
 use Rattle.evaluate.proofs.BlockLaws.{whole-end}
-use native.Mathlib.Omega.{arith}
 use borrow.Author.Needs.{needs}
 use Rattle.evaluate.proofs.blocks.merge.Statement.{statement}
 use Rattle.evaluate.proofs.blocks.merge.Tie as tie
