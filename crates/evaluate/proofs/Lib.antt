@@ -6,6 +6,7 @@ mod TokenLaws
 mod SelectionLaws
 mod StepLaws
 mod ReachLaws
+mod RoomLaws
 mod RelationLaws
 mod MeetLaws
 mod WalkLaws

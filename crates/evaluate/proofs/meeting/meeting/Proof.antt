@@ -1,7 +1,7 @@
 -- The first relation, the second beside it, and what they share.
 use Rattle.evaluate.proofs.WalkLaws.{walk-room}
 use Rattle.evaluate.proofs.MeetLaws.{common-selection}
-use Rattle.evaluate.proofs.RelationLaws.{room-first, room-second, room-both}
+use Rattle.evaluate.proofs.RoomLaws.{room-first, room-second, room-both}
 use Rattle.evaluate.proofs.StepLaws.{size-of}
 use mathlib.Core.Path.{refl, _∙_}
 use native.Mathlib.Omega.{arith}

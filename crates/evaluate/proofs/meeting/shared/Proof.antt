@@ -1,5 +1,6 @@
 -- The set holds what the rows passed share (Shared).
-use Rattle.evaluate.proofs.RelationLaws.{room-row, room-few, shared-none, shared-more}
+use Rattle.evaluate.proofs.RoomLaws.{room-row, room-few}
+use Rattle.evaluate.proofs.RelationLaws.{shared-none, shared-more}
 use Rattle.evaluate.specs.Relation.{Shared}
 use native.Mathlib.Nat.{le-antisymm}
 use Prim.Native.Nat.{_≤_, _-_}

@@ -1,7 +1,7 @@
 -- The path before a step is shorter, so the place where it ends is the measure. The step takes its relation, in the spare
 -- rows, to that of the whole.
 use Rattle.evaluate.proofs.WalkLaws.{walk-few, walk-last, walk-suc, walk-followable, walk-before, relate-on, relate-starts, related-at}
-use Rattle.evaluate.proofs.RelationLaws.{room-same, room-turned}
+use Rattle.evaluate.proofs.RoomLaws.{room-same, room-turned}
 use Rattle.records.proofs.ReadingLaws.{path-some}
 use Rattle.records.proofs.PileLaws.{start-le}
 use Rattle.records.specs.ConceptRefusal.{stepAt}

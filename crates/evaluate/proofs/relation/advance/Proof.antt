@@ -1,6 +1,7 @@
 -- The relation holds what the facts passed carry of the spare one (Stepped), for the step whose facts and ends these are
 -- (Facing); before the row of the kind and after it there is nothing.
-use Rattle.evaluate.proofs.RelationLaws.{room-same, stepped-none, stepped-more, stepped-all}
+use Rattle.evaluate.proofs.RoomLaws.{room-same}
+use Rattle.evaluate.proofs.RelationLaws.{stepped-none, stepped-more, stepped-all}
 use Rattle.evaluate.proofs.StepLaws.{Facing, facing-few, facing-inside}
 use Rattle.evaluate.specs.declared.steps.Step.{Step}
 use Rattle.evaluate.specs.Relation.{Stepped}

@@ -1,5 +1,6 @@
 -- The words passed are 0 (Filled).
-use Rattle.evaluate.proofs.RelationLaws.{room-words, noWord, cleared-of}
+use Rattle.evaluate.proofs.RoomLaws.{room-words}
+use Rattle.evaluate.proofs.RelationLaws.{noWord, cleared-of}
 use Rattle.evaluate.proofs.RowLaws.{filled-none, filled-more, filled-all}
 use Rattle.evaluate.specs.Rows.{Filled}
 use mathlib.Core.Path.{refl}

@@ -1,5 +1,6 @@
 -- A fact that carries a row, and one that lands outside the set.
-use Rattle.evaluate.proofs.RelationLaws.{room-row, room-few, followed-more, followed-outside}
+use Rattle.evaluate.proofs.RoomLaws.{room-row, room-few}
+use Rattle.evaluate.proofs.RelationLaws.{followed-more, followed-outside}
 use mathlib.Core.Path.{sym, _∙_}
 use native.Mathlib.Omega.{arith}
 use borrow.Author.Needs.{needs}

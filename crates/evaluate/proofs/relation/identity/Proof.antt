@@ -1,5 +1,6 @@
 -- The objects passed lead to themselves, in rows that were cleared (Marking).
-use Rattle.evaluate.proofs.RelationLaws.{room-row, room-few, Marking, marking-none, marking-more, marking-all}
+use Rattle.evaluate.proofs.RoomLaws.{room-row, room-few}
+use Rattle.evaluate.proofs.RelationLaws.{Marking, marking-none, marking-more, marking-all}
 use Rattle.evaluate.proofs.BlockLaws.{row-end}
 use Prim.Native.Nat.{_+_, _≤_, _-_}
 use native.Mathlib.Omega.{arith}
