@@ -8,7 +8,7 @@ use mathlib.Core.Logic.{⊎-elim}
 use lib.Dec.{eqb}
 use lib.ListN.{length}
 use native.Mathlib.Omega.{arith}
-use borrow.Author.Tests.{eqb-true, eq-eqb, ne-eqb, lt-ltb, le-ltb, ltb-false}
+use borrow.Author.Tests.{eqb-true, eq-eqb, ne-eqb, lt-ltb, le-ltb, ltb-false, leb-false}
 use types.Run.{OneOf}
 use denote.Enum.Declared.{tagOf}
 use Rattle.records.proofs.schema.SchemaAnswer as Schema
@@ -25,7 +25,7 @@ use Rattle.records.specs.Layout.{querySteps, viewSteps}
 use Rattle.records.specs.SchemaRefusal.{schemaNumber, refusal-1, refusal-2, schemaAnswer, AcceptedSchema}
 use Rattle.records.specs.ConceptRefusal.{conceptNumber, conceptAnswer, AcceptedConcept}
 use Rattle.records.specs.StateRefusal.{stateNumber, stateAnswer, AcceptedState}
-use Rattle.records.specs.Outcome.{refusal-11, schemaRefusal, queryRefusal, viewRefusal, stateRefusal, lentRefusal, firstRefusal, outcome}
+use Rattle.records.specs.Outcome.{refusal-11, refusal-12, schemaRefusal, queryRefusal, viewRefusal, stateRefusal, lentRefusal, attributeRefusal, firstRefusal, outcome}
 use Rattle.records.specs.SchemaRecord.{signatureOf}
 
 -- Numbers in checking order.
@@ -39,6 +39,19 @@ pub first-at : (passed rest : List ℕ) (n : ℕ) → Passed passed → eqb n 0 
 unfolding firstRefusal
 first-at [] rest n p e = rw e
 first-at (m ∷ passed) rest n p e = rw (p .0) (first-at passed rest n (p .1) e)
+
+pub first-among : (passed numbers : List ℕ) → Passed passed → firstRefusal (passed ++ numbers) ≡ firstRefusal numbers
+unfolding firstRefusal
+first-among [] numbers p = refl
+first-among (m ∷ passed) numbers p = rw (p .0) (first-among passed numbers (p .1))
+
+pub first-single : (n : ℕ) → firstRefusal (n ∷ []) ≡ n
+unfolding firstRefusal
+first-single n = pick (eqb n 0) refl
+  where
+    pick : (b : Bool) → eqb n 0 ≡ b → cond b 0 n ≡ n
+    pick true e = sym (eqb-true n 0 e)
+    pick false e = refl
 
 pub first-none : (numbers : List ℕ) → Passed numbers → firstRefusal numbers ≡ 0
 unfolding firstRefusal
@@ -63,6 +76,18 @@ module _ {A : Type 0} (refused : ℕ → A) (answer : A) where
   pub refused-at : (passed rest : List ℕ) {n m : ℕ} → Passed passed → Turned n m → refused n ≡ outcome refused (passed ++ m ∷ rest) answer
   unfolding outcome
   refused-at passed rest {n} {m} p t = rw (t .0, first-at passed rest m p (t .1), t .1)
+
+  -- the first of some numbers that is not 0, where those before them are
+  pub refused-among : (passed numbers : List ℕ) {n : ℕ} → Passed passed → n ≡ firstRefusal numbers → (n ≡ 0 → ⊥)
+      → refused n ≡ outcome refused (passed ++ numbers) answer
+  unfolding outcome
+  refused-among passed numbers {n} p e h =
+      let q : firstRefusal (passed ++ numbers) ≡ n = first-among passed numbers p ∙ sym e in
+      rw (q, ne-eqb n 0 h)
+
+  pub answered-among : (passed numbers : List ℕ) → Passed passed → firstRefusal numbers ≡ 0 → answer ≡ outcome refused (passed ++ numbers) answer
+  unfolding outcome
+  answered-among passed numbers p e = rw (first-among passed numbers p, e)
 
   pub answered-at : (numbers : List ℕ) → Passed numbers → answer ≡ outcome refused numbers answer
   unfolding outcome
@@ -187,6 +212,14 @@ module _ (schema : List ℕ) where
       pick of-state.BadFact e = absurd (omega arith)
       pick of-state.BadOrder e = absurd (omega arith)
       pick of-state.BadConstants e = absurd (omega arith)
+
+pub passed-attribute : (schema : List ℕ) (P : ℕ) → attributeRefusal schema P ≡ 0 → P < signatureOf schema .attributes
+unfolding refusal-12
+passed-attribute schema P e = leb-false (signatureOf schema .attributes) P (pick (refusal-12 (signatureOf schema) P) e)
+  where
+    pick : (b : Bool) → _≡_ {A = ℕ} (cond b 12 0) 0 → b ≡ false
+    pick true e = absurd (omega arith)
+    pick false e = refl
 
 pub lent-passed : (needed : ℕ) (lent : List ℕ) → needed ≤ length lent → lentRefusal needed lent ≡ 0
 unfolding refusal-11

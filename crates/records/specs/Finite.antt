@@ -1,6 +1,6 @@
--- Searches over the numbers below n, by a test f: whether all pass, whether some does, how many do, and the first.
+-- Searches over the numbers below n, by a test f: whether all pass, whether some does, how many do, and the first; and sums.
 -- Plain mathematics; no part of the papers.
-use Prim.Native.Nat.{ℕ, zero, suc}
+use Prim.Native.Nat.{ℕ, zero, suc, _+_}
 use mathlib.Core.Bool.{Bool, true, false, cond, _&&_, _||_}
 
 unfoldable pub all : ℕ → (ℕ → Bool) → Bool
@@ -14,6 +14,11 @@ any (suc n) f = any n f || f n
 unfoldable pub count : ℕ → (ℕ → Bool) → ℕ
 count zero f = zero
 count (suc n) f = cond (f n) (suc (count n f)) (count n f)
+
+-- what f gives for the numbers below n, added up
+unfoldable pub sum : ℕ → (ℕ → ℕ) → ℕ
+sum zero f = zero
+sum (suc n) f = sum n f + f n
 
 -- the lowest number below n that passes, or n where none does
 unfoldable pub least : ℕ → (ℕ → Bool) → ℕ

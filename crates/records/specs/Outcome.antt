@@ -1,10 +1,12 @@
--- Document 01, "Turned back": records are checked in the order schema, query (or concept), view, state, lent words. A call is
--- refused by the first refusal that applies, and otherwise answered. Numbers are the paper's, 0 for what is accepted.
+-- Document 01, "Turned back": records are checked in the order schema, query (or concept), view, state, attribute number, lent
+-- words. A call is refused by the first refusal that applies, and otherwise answered. Numbers are the papers', 0 for what is
+-- accepted.
 use Prim.Native.Nat.{ℕ}
 use mathlib.Core.List.{List, [], _∷_}
 use mathlib.Core.Bool.{Bool, cond}
-use lib.Dec.{eqb, ltb}
+use lib.Dec.{eqb, ltb, leb}
 use lib.ListN.{length}
+use Rattle.records.specs.declared.schema.Signature.{Signature}
 use Rattle.records.specs.Layout.{querySteps, viewSteps}
 use Rattle.records.specs.SchemaRecord.{signatureOf}
 use Rattle.records.specs.SchemaRefusal.{schemaAnswer, schemaNumber}
@@ -14,6 +16,10 @@ use Rattle.records.specs.StateRefusal.{stateAnswer, stateNumber}
 -- 11. The lent words (words of the caller's that an answer is written to) are fewer than it needs.
 unfoldable pub refusal-11 : ℕ → List ℕ → Bool
 refusal-11 needed lent = ltb (length lent) needed
+
+-- 12. The attribute whose links are counted is not declared. (Document 02, note 1.)
+unfoldable pub refusal-12 : Signature → ℕ → Bool
+refusal-12 s P = leb (s .attributes) P
 
 abbrev pub schemaRefusal : List ℕ → ℕ
 schemaRefusal schema = schemaNumber (schemaAnswer schema)
@@ -29,6 +35,12 @@ stateRefusal schema state = stateNumber (stateAnswer (signatureOf schema) state)
 
 abbrev pub lentRefusal : ℕ → List ℕ → ℕ
 lentRefusal needed lent = cond (refusal-11 needed lent) 11 0
+
+abbrev pub attributeNumber : Signature → ℕ → ℕ
+attributeNumber s P = cond (refusal-12 s P) 12 0
+
+abbrev pub attributeRefusal : List ℕ → ℕ → ℕ
+attributeRefusal schema P = attributeNumber (signatureOf schema) P
 
 -- the first number that is not 0, of numbers in checking order
 unfoldable pub firstRefusal : List ℕ → ℕ

@@ -128,6 +128,14 @@ module _ (f : ℕ → Bool) where
   none-count zero h = refl
   none-count (suc n) h = rw (h n (omega arith)) (none-count n (λ i l. h i (omega arith)))
 
+  -- those past the last that passes do not count
+  pub count-past : (i n : ℕ) → i ≤ n → ((j : ℕ) → i ≤ j → j < n → f j ≡ false) → count n f ≡ count i f
+  count-past i zero h none = let q : zero ≡ i = omega arith in ap (λ (j : ℕ). count j f) q
+  count-past i (suc n) h none =
+      ⊎-elim (λ q. ap (λ (j : ℕ). count j f) (sym q))
+      (λ l. count-still n (none n (le-of-suc-le-suc l) (omega arith)) ∙ count-past i n (le-of-suc-le-suc l) (λ j k m. none j k (omega arith)))
+      (eq-or-lt-of-le h)
+
   -- where just one passes, any two that pass are the same
   pub count-one : (n : ℕ) → count n f ≡ 1 → (i j : ℕ) → i < n → j < n → So (f i) → So (f j) → i ≡ j
   unfolding count
