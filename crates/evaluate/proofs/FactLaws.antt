@@ -10,24 +10,22 @@ use Rattle.records.specs.declared.schema.Signature.{Signature}
 use Rattle.records.specs.Finite.{count}
 use Rattle.records.specs.Layout.{stateLayout, entries, constantKinds, maxObjects}
 use Rattle.records.specs.StateRecord.{objects, kindAt, objectAt, says, stateOf}
-use Rattle.records.specs.StateRefusal.{faultyFact, namesAt}
+use Rattle.records.specs.StateRefusal.{namesAt}
 use Rattle.records.proofs.General.BoolLaws.{and-right, and-both, test-same}
 use Rattle.records.proofs.General.FiniteLaws.{any-found, count-found}
-use Rattle.records.proofs.AcceptedLaws.{passes-7, passes-8, passes-10, objects-few, fact-faultless, constant-once}
-use Rattle.records.proofs.StateScanLaws.{says-iff, fact-object, fact-second, name-is}
+use Rattle.records.proofs.AcceptedLaws.{passes-7, passes-10, objects-few, constant-once}
+use Rattle.records.proofs.FactLaws.{says-iff, object-inside, second-inside}
+use Rattle.records.proofs.StateScanLaws.{name-is}
 use Rattle.evaluate.specs.Evaluable.{Evaluable}
 use Rattle.evaluate.specs.Steps.{endAt}
 
 module _ {s : Signature} {w v : List ℕ} (ok : Evaluable s w v) where
-  faultless : (i : ℕ) → i < entries stateLayout v → faultyFact s v i ≡ false
-  faultless = fact-faultless s v (passes-8 s v (ok .accepted))
-
   pub objects-room : objects v ≤ maxObjects
   objects-room = objects-few v (passes-7 s v (ok .accepted))
 
   pub end-inside : (second : Bool) (i : ℕ) → i < entries stateLayout v → endAt v second i < objects v
-  end-inside true i l = fact-second s v i (faultless i l)
-  end-inside false i l = fact-object s v i (faultless i l)
+  end-inside true = second-inside s v (ok .accepted)
+  end-inside false = object-inside s v (ok .accepted)
 
   -- A kind's objects.
 

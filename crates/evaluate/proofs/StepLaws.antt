@@ -13,9 +13,10 @@ use Rattle.records.specs.Finite.{any}
 use Rattle.records.specs.Layout.{objectPart, stateLayout, entries, leftAt, rightAt, attributeKinds}
 use Rattle.records.specs.Concept.{directionOf}
 use Rattle.records.specs.Executable.{stepsTo}
-use Rattle.records.specs.StateRecord.{objects, kindAt, objectAt, says, saysPair, stateOf}
-use Rattle.records.proofs.General.BoolLaws.{and-left, and-both, and-three-map, eqb-same}
-use Rattle.records.proofs.General.FiniteLaws.{any-more, any-of, any-found}
+use Rattle.records.specs.StateRecord.{objects, kindAt, objectAt, says, stateOf}
+use Rattle.records.proofs.General.BoolLaws.{and-left, eqb-same}
+use Rattle.records.proofs.General.FiniteLaws.{any-more}
+use Rattle.records.proofs.FactLaws.{pair-iff, pair-of}
 use Rattle.index.specs.BitSet.{bitAt, Inserted}
 use Rattle.index.specs.Kinds.{KindParts}
 use Rattle.index.proofs.BitSetLaws.{zero-bits}
@@ -177,28 +178,11 @@ module _ {w : List ℕ} {e : Ends} {into : List ℕ} {i c : ℕ} {ws : List ℕ}
 -- A fact leads a step from one end of its pair to the other.
 
 pub steps-of : (v : List ℕ) (back : Bool) (P i : ℕ) → i < entries stateLayout v → kindAt v i ≡ attributeKinds + P → So (stepsTo (stateOf v) (directionOf back) P (endAt v back i) (endAt v (not back) i))
-unfolding stateOf saysPair
-steps-of v back P i l e = pick back
-  where
-    pair : So (saysPair v (attributeKinds + P) (objectAt v i) (rightAt stateLayout v i))
-    pair =
-        any-of _ (entries stateLayout v) i l
-        (and-both _ _ (and-both _ _ (eq-eqb (kindAt v i) (attributeKinds + P) e) (eq-eqb (objectAt v i) (objectAt v i) refl)) (eq-eqb (rightAt stateLayout v i) (rightAt stateLayout v i) refl))
-
-    pick : (back : Bool) → So (stepsTo (stateOf v) (directionOf back) P (endAt v back i) (endAt v (not back) i))
-    pick true = pair
-    pick false = pair
+unfolding stateOf
+steps-of v true P i l e = pair-of v (attributeKinds + P) i l e
+steps-of v false P i l e = pair-of v (attributeKinds + P) i l e
 
 pub steps-found : (v : List ℕ) (back : Bool) (P c t : ℕ) → So (stepsTo (stateOf v) (directionOf back) P c t) → (i : ℕ) × (i < entries stateLayout v) × (kindAt v i ≡ attributeKinds + P) × (endAt v back i ≡ c) × (endAt v (not back) i ≡ t)
-unfolding stateOf saysPair
-steps-found v back P c t = pick back
-  where
-    pair : (d e : ℕ) → So (saysPair v (attributeKinds + P) d e) → (i : ℕ) × (i < entries stateLayout v) × (kindAt v i ≡ attributeKinds + P) × (objectAt v i ≡ d) × (rightAt stateLayout v i ≡ e)
-    pair d e h =
-        let (i, l, q) = any-found (λ i. eqb (kindAt v i) (attributeKinds + P) && eqb (objectAt v i) d && eqb (rightAt stateLayout v i) e) (entries stateLayout v) h in
-        let (a, b, c) = and-three-map (eqb-true (kindAt v i) (attributeKinds + P)) (eqb-true (objectAt v i) d) (eqb-true (rightAt stateLayout v i) e) q in
-        (i, l, a, b, c)
-
-    pick : (back : Bool) → So (stepsTo (stateOf v) (directionOf back) P c t) → (i : ℕ) × (i < entries stateLayout v) × (kindAt v i ≡ attributeKinds + P) × (endAt v back i ≡ c) × (endAt v (not back) i ≡ t)
-    pick true h = let (i, l, a, b, c) = pair t c h in (i, l, a, c, b)
-    pick false h = pair c t h
+unfolding stateOf
+steps-found v true P c t h = let (i, l, (a, b, c)) = pair-iff v (attributeKinds + P) t c .0 h in (i, l, a, c, b)
+steps-found v false P c t h = let (i, l, (a, b, c)) = pair-iff v (attributeKinds + P) c t .0 h in (i, l, a, b, c)

@@ -17,12 +17,13 @@ use Rattle.records.specs.StateRecord.{objects, kindAt, objectAt, says, stateOf}
 use Rattle.records.specs.StateRefusal.{AcceptedState}
 use Rattle.records.proofs.General.BoolLaws.{and-both, and-map, and-three-map, not-both, false-of-not}
 use Rattle.records.proofs.General.FiniteLaws.{any-none}
+use Rattle.records.proofs.AcceptedLaws.{passes-7, objects-few}
+use Rattle.records.proofs.FactLaws.{says-iff, PairFact, pair-iff, pair-of, object-inside, second-inside}
 use Rattle.index.specs.Index.{Indexes}
 use Rattle.index.proofs.IndexLaws.{index-says}
 use Rattle.records.specs.Helpers.InRange.{AxiomInRange}
 use Rattle.legality.specs.Breaks.{seenAt, isPair, objectBreaks, pairBreaks}
-use Rattle.records.proofs.StateScanLaws.{says-iff}
-use Rattle.legality.proofs.FactLaws.{PairFact, pair-iff, pair-of, few-objects, object-inside, value-inside, repeats-of, repeats-other}
+use Rattle.legality.proofs.FactLaws.{repeats-of, repeats-other}
 
 -- where nothing is in a and outside b, what is in a is in b
 implied : (a b : Bool) → (a && not b) ≡ false → So a → So b
@@ -31,7 +32,7 @@ implied false b e p = absurd (false≢true p)
 
 module _ (s : Signature) (w seen : List ℕ) (ok : AcceptedState s w) (z : Indexes w seen) where
   seen-is : (k d : ℕ) → k < factKinds → d < objects w → says w k d ≡ seenAt seen k d
-  seen-is k d l m = index-says z k d l (omega (arith, few-objects s w ok))
+  seen-is k d l m = index-says z k d l (omega (arith, objects-few w (passes-7 s w ok)))
 
   -- of the first object of a fact
   first-seen : (k f : ℕ) → k < factKinds → f < entries stateLayout w → says w k (objectAt w f) ≡ seenAt seen k (objectAt w f)
@@ -64,7 +65,7 @@ module _ (s : Signature) (w seen : List ℕ) (ok : AcceptedState s w) (z : Index
       and-three-map {c = not (seenAt seen B (rightAt stateLayout w f))} (eqb-true (kindAt w f) (attributeKinds + P))
       (λ u. first-seen A f (omega arith) l ∙ u) (false-of-not _) t
       in
-      let r = value-inside s w ok f l in
+      let r = second-inside s w ok f l in
       not-both (says w B (rightAt stateLayout w f))
       (h (objectAt w f) (object-inside s w ok f l) (p .1) (rightAt stateLayout w f) r (pair-of w (attributeKinds + P) f l (p .0)))
       (seen-is B (rightAt stateLayout w f) (omega arith) r ∙ p .2)
@@ -74,8 +75,8 @@ module _ (s : Signature) (w seen : List ℕ) (ok : AcceptedState s w) (z : Index
       let g = p .2 in
       let same =
       h (objectAt w f) (object-inside s w ok f l) (p .1)
-      (rightAt stateLayout w f) (value-inside s w ok f l) (pair-of w (attributeKinds + P) f l (p .0))
-      (rightAt stateLayout w (g .0)) (value-inside s w ok (g .0) (g .1))
+      (rightAt stateLayout w f) (second-inside s w ok f l) (pair-of w (attributeKinds + P) f l (p .0))
+      (rightAt stateLayout w (g .0)) (second-inside s w ok (g .0) (g .1))
       (pair-iff w (attributeKinds + P) (objectAt w f) (rightAt stateLayout w (g .0)) .1 (g .0, g .1, (g .2 .0 ∙ p .0, g .2 .1, refl)))
       in
       omega (arith, same, g .2 .2)
@@ -84,7 +85,7 @@ module _ (s : Signature) (w seen : List ℕ) (ok : AcceptedState s w) (z : Index
       and-map {b = not (seenAt seen A (objectAt w f) && seenAt seen B (rightAt stateLayout w f))} (eqb-true (kindAt w f) (attributeKinds + P))
       (false-of-not _) t
       in
-      let r = value-inside s w ok f l in
+      let r = second-inside s w ok f l in
       let q = h (objectAt w f) (object-inside s w ok f l) (rightAt stateLayout w f) r (pair-of w (attributeKinds + P) f l (p .0)) in
       not-both (seenAt seen A (objectAt w f) && seenAt seen B (rightAt stateLayout w f))
       (and-both _ _ (sym (first-seen A f (omega arith) l) ∙ q .0) (sym (seen-is B (rightAt stateLayout w f) (omega arith) r) ∙ q .1))
@@ -102,7 +103,7 @@ module _ (s : Signature) (w seen : List ℕ) (ok : AcceptedState s w) (z : Index
     where
       typed : (f : ℕ) → f < entries stateLayout w → kindAt w f ≡ attributeKinds + P → So (says w A (objectAt w f)) → So (says w B (rightAt stateLayout w f))
       typed f l k p =
-          seen-is B (rightAt stateLayout w f) (omega arith) (value-inside s w ok f l)
+          seen-is B (rightAt stateLayout w f) (omega arith) (second-inside s w ok f l)
           ∙ implied (isPair w P f && seenAt seen A (objectAt w f)) (seenAt seen B (rightAt stateLayout w f)) (any-none _ (entries stateLayout w) q f l)
           (and-both _ _ (eq-eqb (kindAt w f) (attributeKinds + P) k) (sym (first-seen A f (omega arith) l) ∙ p))
   unbroken (Necessary A P) n o q = λ d l p.
@@ -112,7 +113,7 @@ module _ (s : Signature) (w seen : List ℕ) (ok : AcceptedState s w) (z : Index
       in
       let f = says-iff w (attributeKinds + P) d .0 v in (
         rightAt stateLayout w (f .0),
-        value-inside s w ok (f .0) (f .1),
+        second-inside s w ok (f .0) (f .1),
         pair-iff w (attributeKinds + P) d (rightAt stateLayout w (f .0)) .1 (f .0, f .1, (f .2 .0, f .2 .1, refl)),
       )
   unbroken (Single A P) n o q = λ d l p e m r e′ m′ r′.
@@ -141,5 +142,5 @@ module _ (s : Signature) (w seen : List ℕ) (ok : AcceptedState s w) (z : Index
     where
       related : (f : ℕ) → f < entries stateLayout w → kindAt w f ≡ attributeKinds + P → So (says w A (objectAt w f)) × So (says w B (rightAt stateLayout w f))
       related f l k =
-          and-map (λ u. first-seen A f (omega arith) l ∙ u) (λ u. seen-is B (rightAt stateLayout w f) (omega arith) (value-inside s w ok f l) ∙ u)
+          and-map (λ u. first-seen A f (omega arith) l ∙ u) (λ u. seen-is B (rightAt stateLayout w f) (omega arith) (second-inside s w ok f l) ∙ u)
           (implied (isPair w P f) (seenAt seen A (objectAt w f) && seenAt seen B (rightAt stateLayout w f)) (any-none _ (entries stateLayout w) q f l) (eq-eqb (kindAt w f) (attributeKinds + P) k))

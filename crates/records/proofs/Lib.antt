@@ -8,6 +8,7 @@ pub mod OutcomeLaws
 pub mod AcceptedLaws
 pub mod ConceptScanLaws
 pub mod StateScanLaws
+pub mod FactLaws
 pub mod AcceptedNames
 pub mod PileLaws
 pub mod SpellingLaws

@@ -4,7 +4,7 @@ use Prim.Native.Nat.{ℕ, zero, suc, _+_, _-_, _≤_, _<_}
 use mathlib.Core.Bool.{Bool, true, false, So, cond, not, _&&_, _||_, false≢true, Bool·not-not}
 use mathlib.Core.List.{List}
 use mathlib.Core.Path.{_≡_, refl, ap, sym, _∙_}
-use mathlib.Core.Logic.{⊎-elim, _↔_}
+use mathlib.Core.Logic.{⊎-elim}
 use native.Mathlib.Nat.{le-of-eq, le-of-lt}
 use native.Mathlib.Numerals.{add-one, sub-one}
 use native.Mathlib.Decide.{ℕ-discrete, decLt}
@@ -20,9 +20,8 @@ use Rattle.records.specs.StateRecord.{kindAt, objectAt, objects, says, s
 use Rattle.records.specs.StateRefusal.{ascends, descends, faultyFact, declaresKind, namesAt, misnames, refusal-8, refusal-9, refusal-10}
 use Rattle.records.specs.Helpers.Scan.{followsAt, slotOf, namedIn, misnamedAt, misnamed}
 use Rattle.records.specs.State.{sameAs, repeats}
-use Rattle.records.proofs.General.BoolLaws.{or-false-left, or-false-right, or-left, or-true-cases, and-left, and-right, and-both, not-both, false-of, and-iff}
-use Rattle.records.proofs.General.FiniteLaws.{any-zero, any-still, any-of, any-none, none-any, any-same, all-more, count-more, count-one, count-found, none-count, least-is, any-iff}
-use Rattle.records.proofs.ExecutableLaws.{eqb-iff}
+use Rattle.records.proofs.General.BoolLaws.{or-false-left, or-false-right, or-left, or-true-cases, and-left, and-right, and-both, not-both, false-of}
+use Rattle.records.proofs.General.FiniteLaws.{any-zero, any-still, any-of, any-none, none-any, any-same, all-more, count-more, count-one, count-found, none-count, least-is}
 
 -- Order.
 
@@ -91,11 +90,6 @@ fact-kind s w i e = pick (ltb (kindAt w i) attributeKinds) refl (ltb (kindAt w i
     pick true p u q h = omega (arith, ltb-true (kindAt w i) attributeKinds p)
     pick false p true q h = omega (arith, ltb-true (kindAt w i) constantKinds q)
     pick false p false q h = ltb-true (kindAt w i) factKinds (and-left _ _ h)
-
--- some fact is of kind k and object d
-pub says-iff : (w : List ℕ) (k d : ℕ) → So (says w k d) ↔ ((f : ℕ) × (f < entries stateLayout w) × ((kindAt w f ≡ k) × (objectAt w f ≡ d)))
-unfolding says
-says-iff w k d = any-iff λ f. and-iff (eqb-iff (kindAt w f) k) (eqb-iff (objectAt w f) d)
 
 pub fact-object : (s : Signature) (w : List ℕ) (i : ℕ) → faultyFact s w i ≡ false → objectAt w i < objects w
 unfolding faultyFact
