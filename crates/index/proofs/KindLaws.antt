@@ -4,19 +4,19 @@ use Prim.Native.Nat.{ℕ, zero, suc, _+_, _≤_, _<_}
 use mathlib.Core.Bool.{Bool, So, false}
 use mathlib.Core.List.{List}
 use mathlib.Core.Logic.{_⊎_, inl, inr, ⊎-elim}
-use mathlib.Core.Path.{_≡_, ap, subst}
+use mathlib.Core.Path.{_≡_, ap, subst, _∙_}
 use native.Mathlib.Decide.{decLt}
 use native.Mathlib.Nat.{le-antisymm, le-of-eq, eq-or-lt-of-le, le-of-suc-le-suc, le-trans}
 use native.Mathlib.Omega.{arith}
 use borrow.Author.Tests.{eqb-true, ltb-true}
 use lib.Dec.{ltb}
 use Rattle.records.specs.declared.schema.Signature.{Signature}
-use Rattle.records.specs.Finite.{any}
+use Rattle.records.specs.Finite.{any, count}
 use Rattle.records.specs.Layout.{stateLayout, entries, leftAt, rightAt}
 use Rattle.records.specs.StateRecord.{kindAt}
 use Rattle.records.specs.StateRefusal.{AcceptedState, ascends}
 use Rattle.records.proofs.General.BoolLaws.{or-true-cases, and-map, false-of, test-same}
-use Rattle.records.proofs.General.FiniteLaws.{none-any, any-of, any-found}
+use Rattle.records.proofs.General.FiniteLaws.{none-any, any-of, any-found, none-count, count-past}
 use Rattle.records.proofs.AcceptedLaws.{passes-9, fact-ascends}
 use Rattle.index.specs.Kinds.{KindsRise, KindParts}
 
@@ -38,6 +38,30 @@ module _ (s : Signature) (w : List ℕ) (ok : AcceptedState s w) where
   left-grows f (suc g) h l =
       ⊎-elim (λ e. le-of-eq (ap (leftAt stateLayout w) e)) (λ m. le-trans (left-grows f g (le-of-suc-le-suc m) (omega arith)) (left-rises g l))
       (eq-or-lt-of-le h)
+
+  -- a later fact stands after an earlier one, by left and then by right
+  fact-grows : (f g : ℕ) → f < g → g < entries stateLayout w
+      → (leftAt stateLayout w f < leftAt stateLayout w g) ⊎ ((leftAt stateLayout w f ≡ leftAt stateLayout w g) × (rightAt stateLayout w f < rightAt stateLayout w g))
+  fact-grows f zero h l = absurd (omega arith)
+  fact-grows f (suc g) h l =
+      ⊎-elim (λ e. rw e (ascends-cases g l))
+      (λ m. ⊎-elim (λ a. inl (omega (arith, a, left-rises g l)))
+      (λ a. ⊎-elim (λ b. inl (omega (arith, a .0, b))) (λ b. inr (a .0 ∙ b .0, omega (arith, a .1, b .1))) (ascends-cases g l))
+      (fact-grows f g m (omega arith)))
+      (eq-or-lt-of-le (le-of-suc-le-suc h))
+
+  -- so no fact stands twice
+  pub fact-once : (f g : ℕ) → f < entries stateLayout w → g < entries stateLayout w
+      → leftAt stateLayout w f ≡ leftAt stateLayout w g → rightAt stateLayout w f ≡ rightAt stateLayout w g → f ≡ g
+  fact-once f g h l p q =
+      elim (decLt f g) [
+        | yes m ↦ absurd (⊎-elim (λ a. omega arith) (λ a. omega (arith, a .1)) (fact-grows f g m l))
+        | no m ↦
+            elim (decLt g f) [
+              | yes k ↦ absurd (⊎-elim (λ a. omega arith) (λ a. omega (arith, a .1)) (fact-grows g f k h))
+              | no k ↦ omega arith
+            ]
+      ]
 
   pub kinds-rise : KindsRise w
   unfolding kindAt
@@ -78,8 +102,20 @@ module _ (w : List ℕ) {k : ℕ} where
   kind-within p q i h l = omega (arith, p .rest i h (omega (arith, q .within)), q .lower i l)
 
   module _ (f : ℕ → Bool) (of : (i : ℕ) → So (f i) → kindAt w i ≡ k) where
+    none-before : {from : ℕ} → KindParts w k from from → (i : ℕ) → i < from → f i ≡ false
+    none-before p i l = false-of _ λ t. omega (arith, of i t, p .lower i l)
+
+    none-after : {to : ℕ} → KindParts w (k + 1) to to → (i : ℕ) → to ≤ i → i < entries stateLayout w → f i ≡ false
+    none-after p i h l = false-of _ λ t. omega (arith, of i t, p .rest i h l)
+
+    pub count-before : {from : ℕ} → KindParts w k from from → count from f ≡ 0
+    count-before {from} p = none-count f from (none-before p)
+
+    pub count-after : {to i : ℕ} → KindParts w (k + 1) to to → to ≤ i → i ≤ entries stateLayout w → count (entries stateLayout w) f ≡ count i f
+    count-after {to} {i} p a b = count-past f i (entries stateLayout w) b (λ j m n. none-after p j (omega arith) n)
+
     pub kind-before : {from : ℕ} → KindParts w k from from → any from f ≡ false
-    kind-before {from} p = none-any f from λ i l. false-of _ λ t. omega (arith, of i t, p .lower i l)
+    kind-before {from} p = none-any f from (none-before p)
 
     pub kind-after : {to i : ℕ} → KindParts w (k + 1) to to → to ≤ i → i ≤ entries stateLayout w → any (entries stateLayout w) f ≡ any i f
     kind-after {to} {i} p a b =
