@@ -2,8 +2,7 @@
 use Prim.Native.Nat.{ℕ, _≤_, _<_}
 use mathlib.Core.List.{List}
 use mathlib.Core.Bool.{Bool, not, _&&_}
-use mathlib.Core.Path.{_≡_, ap₂, _∙_}
-use native.Mathlib.Omega.{arith}
+use mathlib.Core.Path.{_≡_, ap₂}
 use borrow.Author.Tests.{eq-eqb, ne-eqb, lt-ltb, le-ltb}
 use Rattle.records.specs.Finite.{least}
 use Rattle.records.proofs.General.FiniteLaws.{least-same}
@@ -11,15 +10,11 @@ use Rattle.records.specs.Layout.{objectPart}
 use Rattle.records.specs.State.{State}
 use Rattle.records.specs.Schema.{Schema}
 use Rattle.records.specs.Concept.{Concept}
-use Rattle.records.specs.Executable.{isIn, firstBroken}
-use Rattle.index.specs.BitSet.{bitAt}
+use Rattle.records.specs.Executable.{firstBroken}
 use Rattle.evaluate.specs.Selection.{Selection}
 use Rattle.judge.specs.declared.counterexample.CounterexampleAnswer.the-variants.{No, Yes}
 use Rattle.judge.specs.Counterexample.{separates, lowest, finding, apart}
-
--- an object's bit
-pub selected-bit : (I : State) (C : Concept) (ws : List ℕ) → Selection I C ws → I .size ≤ objectPart → (d : ℕ) → d < I .size → bitAt ws d ≡ isIn I C d
-selected-bit I C ws z few d h = z .bits d (omega arith) ∙ rw (lt-ltb d (I .size) h)
+use Rattle.judge.proofs.EvaluationLaws.{selected-bit}
 
 -- the search over the two sets is that over the concepts
 pub lowest-is : (I : State) (query view : Concept) (inside outside : List ℕ) → Selection I query inside → Selection I view outside → I .size ≤ objectPart

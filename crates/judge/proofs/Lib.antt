@@ -1,4 +1,5 @@
 -- Laws that the entries' proofs share, and what the answers say in the terms of the definitions.
+mod EvaluationLaws
 pub mod LegalLaws
 pub mod SelectLaws
 mod MarkLaws

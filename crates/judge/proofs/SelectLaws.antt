@@ -2,10 +2,9 @@
 use Prim.Native.Nat.{ℕ, zero, suc, _≤_, _<_}
 use mathlib.Core.List.{List, _++_}
 use mathlib.Core.Bool.{Bool}
-use mathlib.Core.Path.{_≡_, refl, _∙_}
+use mathlib.Core.Path.{_≡_, refl}
 use native.Mathlib.Omega.{arith}
 use lib.ListN.{drop}
-use borrow.Author.Tests.{lt-ltb}
 use Rattle.records.specs.Finite.{count}
 use Rattle.records.specs.Layout.{objectPart}
 use Rattle.records.specs.State.{State}
@@ -16,6 +15,7 @@ use Rattle.index.specs.BitSet.{bitAt}
 use Rattle.evaluate.specs.Selection.{Selection}
 use Rattle.judge.specs.declared.select.SelectAnswer.the-variants.{Selected}
 use Rattle.judge.specs.Select.{marks, selection}
+use Rattle.judge.proofs.EvaluationLaws.{selected-bit}
 
 marks-same : (f g : ℕ → Bool) (n : ℕ) → ((i : ℕ) → i < n → f i ≡ g i) → marks f n ≡ marks g n
 unfolding marks
@@ -25,7 +25,6 @@ marks-same f g (suc n) h = rw (h n (omega arith), marks-same f g n (λ i l. h i 
 -- the marks of the set are those of the concept
 pub selection-is : (I : State) (C : Concept) (lent ws : List ℕ) → Selection I C ws → I .size ≤ objectPart → record { answer = Selected (count (I .size) (bitAt ws)); words = marks (bitAt ws) (I .size) ++ drop (I .size) lent } ≡ selection I C lent
 unfolding selection
-selection-is I C lent ws z few = rw (count-same (bitAt ws) (isIn I C) (I .size) same, marks-same (bitAt ws) (isIn I C) (I .size) same)
-  where
-    same : (d : ℕ) → d < I .size → bitAt ws d ≡ isIn I C d
-    same d l = z .bits d (omega arith) ∙ rw (lt-ltb d (I .size) l)
+selection-is I C lent ws z few =
+    let same = selected-bit I C ws z few in
+    rw (count-same (bitAt ws) (isIn I C) (I .size) same, marks-same (bitAt ws) (isIn I C) (I .size) same)

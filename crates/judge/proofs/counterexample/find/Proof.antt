@@ -1,4 +1,5 @@
 -- An illegal state answers no; of a legal one the search over the two sets is that over the two concepts (CounterexampleLaws).
+use Rattle.judge.proofs.EvaluationLaws.{evaluable}
 use Rattle.judge.proofs.CounterexampleLaws.{find-illegal, find-none, find-yes, lowest-is}
 use mathlib.Core.Path.{_∙_, sym}
 use native.Mathlib.Omega.{arith}
@@ -6,7 +7,7 @@ use Rattle.records.specs.Layout.{querySteps, viewSteps}
 use Rattle.records.specs.SchemaRecord.{schemaOf}
 use Rattle.records.specs.ConceptRecord.{conceptOf}
 use Rattle.records.specs.StateRecord.{stateOf}
-use Rattle.records.proofs.AcceptedLaws.{passes-3, passes-4, passes-5, passes-7, objects-few}
+use Rattle.records.proofs.AcceptedLaws.{passes-7, objects-few}
 use Rattle.judge.proofs.counterexample.find.Statement.{statement}
 use Rattle.judge.proofs.counterexample.find.Tie as tie
 
@@ -36,22 +37,12 @@ returns c =
 evaluate-requires : tie.Need-evaluate-requires
 evaluate-requires c κs =
     let ok = c .before .before .before .before .before .before .before .before .before .pre in
-    record {
-      shape = passes-3 querySteps _ _ (ok .query-accepted);
-      tokens = passes-4 querySteps _ _ (ok .query-accepted);
-      pile = passes-5 querySteps _ _ (ok .query-accepted);
-      accepted = ok .state-accepted;
-    }
+    evaluable querySteps (ok .query-accepted) (ok .state-accepted)
 
 evaluate-requires-2 : tie.Need-evaluate-requires-2
 evaluate-requires-2 c κs =
     let ok = c .before .before .before .before .before .before .before .before .before .before .pre in
-    record {
-      shape = passes-3 viewSteps _ _ (ok .view-accepted);
-      tokens = passes-4 viewSteps _ _ (ok .view-accepted);
-      pile = passes-5 viewSteps _ _ (ok .view-accepted);
-      accepted = ok .state-accepted;
-    }
+    evaluable viewSteps (ok .view-accepted) (ok .state-accepted)
 
 objects-requires : tie.Need-objects-requires
 objects-requires c κs = tt

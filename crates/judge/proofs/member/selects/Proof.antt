@@ -5,20 +5,15 @@ use native.Mathlib.Omega.{arith}
 use Rattle.records.specs.Layout.{viewSteps}
 use Rattle.records.specs.ConceptRecord.{conceptOf}
 use Rattle.records.specs.StateRecord.{stateOf}
-use Rattle.records.proofs.AcceptedLaws.{passes-3, passes-4, passes-5, passes-7, objects-few}
-use Rattle.judge.proofs.CounterexampleLaws.{selected-bit}
+use Rattle.records.proofs.AcceptedLaws.{passes-7, objects-few}
+use Rattle.judge.proofs.EvaluationLaws.{evaluable, selected-bit}
 use Rattle.judge.proofs.member.selects.Statement.{statement}
 use Rattle.judge.proofs.member.selects.Tie as tie
 
 evaluate-requires : tie.Need-evaluate-requires
 evaluate-requires c κs =
     let ok = c .before .before .pre in
-    record {
-      shape = passes-3 viewSteps _ _ (ok .view-accepted);
-      tokens = passes-4 viewSteps _ _ (ok .view-accepted);
-      pile = passes-5 viewSteps _ _ (ok .view-accepted);
-      accepted = ok .state-accepted;
-    }
+    evaluable viewSteps (ok .view-accepted) (ok .state-accepted)
 
 slice-aggregate-has : tie.Need-slice-aggregate-has
 slice-aggregate-has c = search needs

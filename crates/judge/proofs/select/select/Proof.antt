@@ -13,9 +13,10 @@ use Rattle.records.specs.SchemaRefusal.{AcceptedSchema}
 use Rattle.records.specs.ConceptRefusal.{AcceptedConcept}
 use Rattle.records.specs.StateRefusal.{AcceptedState}
 use Rattle.records.specs.Outcome.{schemaRefusal, queryRefusal, stateRefusal}
-use Rattle.records.proofs.AcceptedLaws.{passes-3, passes-4, passes-5, passes-7, objects-few}
+use Rattle.records.proofs.AcceptedLaws.{passes-7, objects-few}
 use Rattle.records.proofs.OutcomeLaws.{refused-at, answered-at, schema-turned, concept-turned, state-turned, lent-turned, schema-signature, schema-passed, query-passed, state-passed, lent-passed}
 use Rattle.judge.specs.Select.{refusedWith, selectRefusals, selectOutcome, selection}
+use Rattle.judge.proofs.EvaluationLaws.{evaluable}
 use Rattle.judge.proofs.SelectLaws.{selection-is}
 use Rattle.judge.proofs.select.select.Statement.{statement}
 use Rattle.judge.proofs.select.select.Tie as tie
@@ -116,12 +117,7 @@ evaluate-requires : tie.Need-evaluate-requires
 evaluate-requires c κs =
     let e = c .before .before in
     let read : AcceptedConcept querySteps (known e .before .checked .given .0 .0) (C (known e)) = sym (e .before .before .before .before .before .check-query .ensures) ∙ e .before .before .before .enum-told .given .1 in
-    record {
-      shape = passes-3 querySteps _ _ read;
-      tokens = passes-4 querySteps _ _ read;
-      pile = passes-5 querySteps _ _ read;
-      accepted = sym (e .before .before .check-state .ensures) ∙ e .enum-told2 .given .1;
-    }
+    evaluable querySteps read (sym (e .before .before .check-state .ensures) ∙ e .enum-told2 .given .1)
 
 mark-requires : tie.Need-mark-requires
 mark-requires c κs = omega (arith, c .before .before .before .if1 .left)
