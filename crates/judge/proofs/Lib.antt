@@ -6,3 +6,9 @@ mod MarkLaws
 pub mod CounterexampleLaws
 mod SelectedLaws
 pub mod Exactness
+mod TallyLaws
+mod CheckedLaws
+pub mod LinkLaws
+mod LinkFacts
+pub mod LinkExactness
+mod LinkExamples
