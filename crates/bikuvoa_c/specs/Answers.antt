@@ -9,6 +9,8 @@ use Rattle.judge.specs.declared.legal.LegalAnswer.{LegalAnswer}
 use Rattle.judge.specs.declared.legal.LegalAnswer.the-variants as legal
 use Rattle.judge.specs.declared.counterexample.CounterexampleAnswer.{CounterexampleAnswer}
 use Rattle.judge.specs.declared.counterexample.CounterexampleAnswer.the-variants as counterexample
+use Rattle.judge.specs.declared.links.LinksAnswer.{LinksAnswer}
+use Rattle.judge.specs.declared.links.LinksAnswer.the-variants as links
 use Rattle.decide.specs.declared.DecideAnswer.{DecideAnswer}
 use Rattle.decide.specs.declared.DecideAnswer.the-variants as decide
 use Rattle.decide.specs.declared.holds.HoldsAnswer.{HoldsAnswer}
@@ -46,6 +48,20 @@ abbrev pub counterexampleWrites : CounterexampleAnswer → ℕ → ℕ
 counterexampleWrites counterexample.No before = 0
 counterexampleWrites (counterexample.Yes d) before = suc d
 counterexampleWrites (counterexample.Refused number) before = before
+
+abbrev pub linksReturns : LinksAnswer → ℕ
+linksReturns (links.Counted n) = 0
+linksReturns (links.Refused number) = number
+
+-- how many links there are
+abbrev pub linksWrites : LinksAnswer → ℕ → ℕ
+linksWrites (links.Counted n) before = n
+linksWrites (links.Refused number) before = before
+
+-- what C gets of an answer of either count
+pub record LinksTo (answer : LinksAnswer) (links : ℕ) (returned : ℕ) (links′ : ℕ) : Type 0 where
+  pub returns : returned ≡ linksReturns answer
+  pub writes : links′ ≡ linksWrites answer links
 
 abbrev pub holdsReturns : HoldsAnswer → ℕ
 holdsReturns holds.Held = 0

@@ -4,12 +4,14 @@ use decide::DecideAnswer;
 use decide::holds::HoldsAnswer;
 use judge::counterexample::CounterexampleAnswer;
 use judge::legal::LegalAnswer;
+use judge::links::LinksAnswer;
 use judge::select::SelectAnswer;
 ghost use mathlib.Core.Path.{_≡_};
 ghost use Rattle.judge.specs.Select.{selectOutcome};
 ghost use Rattle.judge.specs.LegalState.{legalAnswer};
 ghost use Rattle.judge.specs.Counterexample.{counterexampleAnswer};
-ghost use Rattle.bikuvoa_c.specs.Answers.{selectReturns, selectWrites, legalReturns, legalWrites, counterexampleReturns, counterexampleWrites, LegalFits, CounterexampleFits, holdsReturns, holdsWrites, HoldsTo, decideReturns, decideObjects, decideObject, DecidedTo};
+ghost use Rattle.judge.specs.Links.{byFirstAnswer, bySecondAnswer};
+ghost use Rattle.bikuvoa_c.specs.Answers.{selectReturns, selectWrites, legalReturns, legalWrites, counterexampleReturns, counterexampleWrites, LegalFits, CounterexampleFits, linksReturns, linksWrites, LinksTo, holdsReturns, holdsWrites, HoldsTo, decideReturns, decideObjects, decideObject, DecidedTo};
 
 fn select_returns(answer: SelectAnswer) -> u16
     ensures { λ r. ⌜ r ≡ selectReturns answer ⌝ }
@@ -112,6 +114,54 @@ pub extern "C" fn bikuvoa_counterexample(
     let answer = judge::counterexample::counterexample(schema, query, view, state);
     *found = counterexample_writes(answer, *found);
     counterexample_returns(answer)
+}
+
+fn links_returns(answer: LinksAnswer) -> u16
+    ensures { λ r. ⌜ r ≡ linksReturns answer ⌝ }
+{
+    match answer {
+        LinksAnswer::Counted(_) => 0,
+        LinksAnswer::Refused(number) => number,
+    }
+}
+
+fn links_writes(answer: LinksAnswer, before: u64) -> u64
+    ensures { λ r. ⌜ r ≡ linksWrites answer before ⌝ }
+{
+    match answer {
+        LinksAnswer::Counted(n) => n as u64,
+        LinksAnswer::Refused(_) => before,
+    }
+}
+
+#[no_mangle]
+pub extern "C" fn bikuvoa_links_by_first(
+    schema: &[u16],
+    concept: &[u16],
+    state: &[u16],
+    attribute: u16,
+    links: &mut u64,
+) -> u16
+    ensures { λ r. ⌜ LinksTo (byFirstAnswer (now (schema .entry)) (now (concept .entry)) (now (state .entry)) attribute) (now (links .entry)) r (now (links .exit)) ⌝ }
+{
+    let answer = judge::links::by_first(schema, concept, state, attribute);
+    *links = links_writes(answer, *links);
+    links_returns(answer)
+}
+
+#[no_mangle]
+pub extern "C" fn bikuvoa_links_by_second(
+    schema: &[u16],
+    concept: &[u16],
+    state: &[u16],
+    attribute: u16,
+    links: &mut u64,
+) -> u16
+    ensures { λ r. ⌜ LinksTo (bySecondAnswer (now (schema .entry)) (now (concept .entry)) (now (state .entry)) attribute) (now (links .entry)) r (now (links .exit)) ⌝ }
+{
+    let answer = judge::links::by_second(schema, concept, state, attribute);
+    *links = links_writes(answer, *links);
+    links_returns(answer)
 }
 
 fn holds_returns(answer: HoldsAnswer) -> u16
