@@ -1,6 +1,6 @@
 /* Bikuvoa: whether a query may be read from a stored view, and the judging of states.
  *
- * Five functions over records of 16-bit words, in the machine's byte order, each record with its length in words. The format
+ * Seven functions over records of 16-bit words, in the machine's byte order, each record with its length in words. The format
  * is in docs/RECORDS.md; the builders below write it. Any words may be passed: each function returns 0, or the number of the
  * first refusal that applies (enum bikuvoa_refusal), and then no lent word and no out value is altered.
  *
@@ -12,7 +12,7 @@
  *
  * Memory. No heap; for the stack see BIKUVOA_STACK_BYTES.
  *
- * Proved, for any words (crates/bikuvoa_c): what each of the five functions returns and writes, that it touches nothing else,
+ * Proved, for any words (crates/bikuvoa_c): what each of the seven functions returns and writes, that it touches nothing else,
  * and that it ends. Not proved: the stack, which is measured, and the inline functions of this header, which are tested.
  *
  * C89 with <stdint.h>, any later C, and C++. */
@@ -37,7 +37,7 @@ extern "C" {
 
 /* While the major version is 0, a new minor version may change the format of records. */
 #define BIKUVOA_VERSION_MAJOR 0
-#define BIKUVOA_VERSION_MINOR 2
+#define BIKUVOA_VERSION_MINOR 3
 #define BIKUVOA_VERSION_PATCH 0
 #define BIKUVOA_VERSION (BIKUVOA_VERSION_MAJOR * 10000 + BIKUVOA_VERSION_MINOR * 100 + BIKUVOA_VERSION_PATCH)
 
@@ -115,7 +115,8 @@ enum bikuvoa_token_sort {
 #define BIKUVOA_FACT_KINDS (BIKUVOA_CONSTANT_KINDS + BIKUVOA_MAX_CONSTANTS)
 
 /* What the functions return. The records are checked in the order of the parameters, each by these numbers from the lowest
- * up; the lent words come last. 3 to 6 may be of the query or of the view: bikuvoa_query_refusal tells which. */
+ * up, and after them the attribute or the lent words, where a function takes them. 3 to 6 may be of the query or of the view:
+ * bikuvoa_query_refusal tells which. */
 enum bikuvoa_refusal {
     BIKUVOA_ACCEPTED = 0,
     BIKUVOA_BAD_SCHEMA_SHAPE = 1,
@@ -128,7 +129,8 @@ enum bikuvoa_refusal {
     BIKUVOA_BAD_FACT = 8,
     BIKUVOA_BAD_ORDER = 9,
     BIKUVOA_BAD_CONSTANTS = 10,
-    BIKUVOA_FEW_LENT_WORDS = 11
+    BIKUVOA_FEW_LENT_WORDS = 11,
+    BIKUVOA_BAD_ATTRIBUTE = 12
 };
 
 BIKUVOA_INLINE const char *bikuvoa_refusal_text(uint16_t refusal)
@@ -159,6 +161,8 @@ BIKUVOA_INLINE const char *bikuvoa_refusal_text(uint16_t refusal)
         return "state: a declared constant without an object or with several, or two constants with the same object";
     case BIKUVOA_FEW_LENT_WORDS:
         return "lent words: too few";
+    case BIKUVOA_BAD_ATTRIBUTE:
+        return "attribute: not declared";
     default:
         return "a number that is no refusal";
     }
@@ -180,6 +184,17 @@ uint16_t bikuvoa_legal(const uint16_t *schema, size_t schema_words, const uint16
 uint16_t bikuvoa_counterexample(const uint16_t *schema, size_t schema_words, const uint16_t *query, size_t query_words,
                                 const uint16_t *view, size_t view_words, const uint16_t *state, size_t state_words,
                                 uint64_t *found);
+
+/* A link is a pair of the attribute. *links is how many of them have a first object that the query selects: for each selected
+ * object the number of its values, added up. The state need not be legal, and a view may stand in the query's place. Any
+ * number may be passed as the attribute; refused as BIKUVOA_BAD_ATTRIBUTE if the schema does not declare it. */
+uint16_t bikuvoa_links_by_first(const uint16_t *schema, size_t schema_words, const uint16_t *query, size_t query_words,
+                                const uint16_t *state, size_t state_words, uint16_t attribute, uint64_t *links);
+
+/* The same links, and always the same number, counted from the other side: for each object the number of selected objects that
+ * have it as a value, added up. */
+uint16_t bikuvoa_links_by_second(const uint16_t *schema, size_t schema_words, const uint16_t *query, size_t query_words,
+                                 const uint16_t *state, size_t state_words, uint16_t attribute, uint64_t *links);
 
 /* Whether in every legal finite state, of any size, each object in the query is in the view.
  * HELD, if so: *objects becomes 0; *object and the lent words stay as they were.

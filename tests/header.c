@@ -28,7 +28,7 @@ static void numbers(void)
                                    + BIKUVOA_MAX_CONSTANTS, "the most facts", 0);
     check(BIKUVOA_ATTRIBUTE_KINDS == 24 && BIKUVOA_CONSTANT_KINDS == 32 && BIKUVOA_FACT_KINDS == 36, "the kinds of facts", 0);
     check(BIKUVOA_MAX_OBJECTS <= BIKUVOA_OBJECT_PART && BIKUVOA_MAX_CLASSES <= BIKUVOA_BYTE_PART, "parts of words", 0);
-    check(BIKUVOA_RELATES == 5 && BIKUVOA_COMMON == 9 && BIKUVOA_FEW_LENT_WORDS == 11, "the last of each list", 0);
+    check(BIKUVOA_RELATES == 5 && BIKUVOA_COMMON == 9 && BIKUVOA_BAD_ATTRIBUTE == 12, "the last of each list", 0);
     check(BIKUVOA_VERSION >= 100, "the version", 0);
 }
 
@@ -36,10 +36,10 @@ static void texts(void)
 {
     static const char *const BEGINS[] = {"accepted", "schema: ", "schema: ", "query or view: ", "query or view: ",
                                          "query or view: ", "query or view: ", "state: ", "state: ", "state: ", "state: ",
-                                         "lent words: "};
+                                         "lent words: ", "attribute: "};
     const char *unknown = bikuvoa_refusal_text(65535);
     uint16_t r, q;
-    for (r = 0; r <= BIKUVOA_FEW_LENT_WORDS; r++) {
+    for (r = 0; r <= BIKUVOA_BAD_ATTRIBUTE; r++) {
         check(strncmp(bikuvoa_refusal_text(r), BEGINS[r], strlen(BEGINS[r])) == 0, "the text's record", r);
         check(strcmp(bikuvoa_refusal_text(r), unknown) != 0, "a refusal's text", r);
         for (q = 0; q < r; q++) check(strcmp(bikuvoa_refusal_text(r), bikuvoa_refusal_text(q)) != 0, "a text of its own", r);
@@ -53,7 +53,7 @@ static void verdicts(void)
     uint16_t r;
     check(BIKUVOA_HELD != 0 && BIKUVOA_OPEN != 0 && BIKUVOA_REFUSED != 0, "no verdict is 0", 0);
     check(bikuvoa_verdict_of(0, &objects) == BIKUVOA_HELD, "held", 0);
-    for (r = BIKUVOA_BAD_SCHEMA_SHAPE; r <= BIKUVOA_FEW_LENT_WORDS; r++)
+    for (r = BIKUVOA_BAD_SCHEMA_SHAPE; r <= BIKUVOA_BAD_ATTRIBUTE; r++)
         check(bikuvoa_verdict_of(r, &objects) == BIKUVOA_REFUSED, "refused", r);
     for (objects = 1; objects <= BIKUVOA_MAX_OBJECTS; objects++)
         if (bikuvoa_verdict_of(0, &objects) != BIKUVOA_OPEN) break;
