@@ -1,6 +1,7 @@
-/* The entries, called from C through include/bikuvoa.h: document 01's twelve small states, a triple of each verdict, every
- * refusal that each entry has, alone and with later faults beside it, records checked one at a time, null pointers, a state
- * at the limits, and the deepest concepts on the documented stack. Not proved; it prints how many checks passed. */
+/* The entries, called from C through include/bikuvoa.h: document 01's twelve small states, a triple of each verdict, links
+ * counted by hand, every refusal that each entry has, alone and with later faults beside it, records checked one at a time,
+ * null pointers, states at the limits, and the deepest concepts on the documented stack. Not proved; it prints how many checks
+ * passed. */
 #define _DEFAULT_SOURCE
 #include "bikuvoa.h"
 #include <pthread.h>
@@ -80,6 +81,13 @@ static Record schema_x(int needs)
     return (Record){x.length, x.words};
 }
 
+static Record declaring(size_t classes, size_t attributes, size_t constants)
+{
+    size_t words = BIKUVOA_SCHEMA_WORDS(0);
+    bikuvoa_schema schema = bikuvoa_start_schema(take(words), words, classes, attributes, constants);
+    return (Record){schema.length, schema.words};
+}
+
 /* State S: two persons wear one strap, and the constant names the first of them. */
 static Record state_s(void)
 {
@@ -94,7 +102,7 @@ static Record state_s(void)
     return (Record){s.length, s.words};
 }
 
-static Record x, x_needs, no_axioms, s, no_objects, everything, person;
+static Record x, x_needs, no_axioms, one_attribute, s, no_objects, everything, person;
 
 /* A faulty record for each refusal of a schema, a concept and a state. */
 static Record bad_schemas[2], bad_concepts[4], bad_states[4];
@@ -103,8 +111,8 @@ static void make_records(void)
 {
     x = schema_x(0);
     x_needs = schema_x(1);
-    bikuvoa_schema none = bikuvoa_start_schema(take(BIKUVOA_SCHEMA_WORDS(0)), BIKUVOA_SCHEMA_WORDS(0), 0, 0, 0);
-    no_axioms = (Record){none.length, none.words};
+    no_axioms = declaring(0, 0, 0);
+    one_attribute = declaring(0, 1, 0);
     s = state_s();
     bikuvoa_state empty = bikuvoa_start_state(take(BIKUVOA_STATE_WORDS(0)), BIKUVOA_STATE_WORDS(0), 0);
     no_objects = (Record){empty.length, empty.words};
@@ -142,19 +150,22 @@ static void make_bad_records(void)
     bad_states[3] = (Record){unnamed.length, unnamed.words};
 }
 
-/* A call of any entry, by the record at each place, or the number of lent words. */
+/* A call of any entry, by the record at each place, or the number of lent words, or the attribute. */
 
-enum { SCHEMA, QUERY, VIEW, STATE, LENT, PLACES };
-enum { SELECT, LEGAL, COUNTEREXAMPLE, DECIDE, HOLDS, ENTRIES };
-static const int HAS[ENTRIES][PLACES] = {{1, 1, 0, 1, 1}, {1, 0, 0, 1, 0}, {1, 1, 1, 1, 0}, {1, 1, 1, 0, 1}, {1, 1, 1, 0, 0}};
+enum { SCHEMA, QUERY, VIEW, STATE, LENT, ATTRIBUTE, PLACES };
+enum { SELECT, LEGAL, COUNTEREXAMPLE, LINKS_BY_FIRST, LINKS_BY_SECOND, DECIDE, HOLDS, ENTRIES };
+static const int HAS[ENTRIES][PLACES] = {{1, 1, 0, 1, 1, 0}, {1, 0, 0, 1, 0, 0}, {1, 1, 1, 1, 0, 0}, {1, 1, 0, 1, 0, 1},
+                                         {1, 1, 0, 1, 0, 1}, {1, 1, 1, 0, 1, 0}, {1, 1, 1, 0, 0, 0}};
 
 #define ON(...) ((const Record[PLACES]){__VA_ARGS__})
 #define NONE {0, NULL}
 #define WORDS(n) {n, NULL}
+#define NUMBER(n) {n, NULL}
 
 static int call(int entry, const Record *r, uint16_t *words, uint64_t *outs)
 {
     Record schema = r[SCHEMA], query = r[QUERY], view = r[VIEW], state = r[STATE];
+    uint16_t attribute = (uint16_t)r[ATTRIBUTE].words;
     switch (entry) {
     case SELECT:
         return bikuvoa_select(schema.at, schema.words, query.at, query.words, state.at, state.words, words, r[LENT].words,
@@ -164,6 +175,10 @@ static int call(int entry, const Record *r, uint16_t *words, uint64_t *outs)
     case COUNTEREXAMPLE:
         return bikuvoa_counterexample(schema.at, schema.words, query.at, query.words, view.at, view.words, state.at,
                                       state.words, outs);
+    case LINKS_BY_FIRST:
+        return bikuvoa_links_by_first(schema.at, schema.words, query.at, query.words, state.at, state.words, attribute, outs);
+    case LINKS_BY_SECOND:
+        return bikuvoa_links_by_second(schema.at, schema.words, query.at, query.words, state.at, state.words, attribute, outs);
     case DECIDE:
         return bikuvoa_decide(schema.at, schema.words, query.at, query.words, view.at, view.words, words, r[LENT].words, outs,
                               outs + 1);
@@ -185,7 +200,17 @@ static int untouched_from(size_t from)
     return from == BIKUVOA_DECIDE_WORDS + 1;
 }
 
-/* The twelve states: the selections a to i, and j, k, l. */
+/* Both counts of links are that number, or both calls are refused and alter nothing. */
+static void links(const Record *r, int returned, uint64_t count, const char *what, int row)
+{
+    for (int entry = LINKS_BY_FIRST; entry <= LINKS_BY_SECOND; entry++) {
+        uint64_t outs[3] = {97, UINT64_MAX, 99};
+        check(call(entry, r, NULL, outs + 1) == returned && outs[1] == (returned ? UINT64_MAX : count), what, 10 * row + entry);
+        check(outs[0] == 97 && outs[2] == 99, "beside the count of links", 10 * row + entry);
+    }
+}
+
+/* The twelve states: the selections a to i, each with the links of wears, of which either person has one, and j, k, l. */
 
 static const struct {
     Tokens tokens;
@@ -208,9 +233,11 @@ static void twelve_states(void)
     for (int row = 0; row < (int)(sizeof SELECTIONS / sizeof *SELECTIONS); row++) {
         uint16_t marked[4] = {UNTOUCHED, UNTOUCHED, UNTOUCHED, UNTOUCHED};
         const uint16_t *marks = SELECTIONS[row].marks;
-        check(call(SELECT, ON(x, concept_of(SELECTIONS[row].tokens), NONE, s, WORDS(4)), marked, &out) == 0, "select", row);
+        Record concept = concept_of(SELECTIONS[row].tokens);
+        check(call(SELECT, ON(x, concept, NONE, s, WORDS(4)), marked, &out) == 0, "select", row);
         check(memcmp(marked, marks, sizeof SELECTIONS[row].marks) == 0 && marked[3] == UNTOUCHED, "marks", row);
         check(out == (uint64_t)marks[0] + marks[1] + marks[2], "selected", row);
+        links(ON(x, concept, NONE, s, NONE, NUMBER(WEARS)), 0, (uint64_t)marks[0] + marks[1], "links of S", row);
     }
     check(call(LEGAL, ON(x, NONE, NONE, s), NULL, &out) == 0 && out == 0, "legal", 'j');
     check(call(LEGAL, ON(x_needs, NONE, NONE, s), NULL, &out) == 0 && out == 3, "legal", 'k');
@@ -256,19 +283,20 @@ static void yes_or_no(void)
 /* Refusals. */
 
 static const int FIRST_NUMBER[PLACES] = {BIKUVOA_BAD_SCHEMA_SHAPE, BIKUVOA_BAD_CONCEPT_SHAPE, BIKUVOA_BAD_CONCEPT_SHAPE,
-                                         BIKUVOA_BAD_STATE_SHAPE, BIKUVOA_FEW_LENT_WORDS};
-static const int NUMBERS[PLACES] = {2, 4, 4, 4, 1};
+                                         BIKUVOA_BAD_STATE_SHAPE, BIKUVOA_FEW_LENT_WORDS, BIKUVOA_BAD_ATTRIBUTE};
+static const int NUMBERS[PLACES] = {2, 4, 4, 4, 1, 1};
 
 /* Place p of a call, good or faulty in the n-th way. */
 static Record record_at(int entry, int p, int faulty, int n)
 {
     const size_t least = entry == DECIDE ? BIKUVOA_DECIDE_WORDS : 3;
-    const Record good[PLACES] = {x, everything, person, s, WORDS(least)};
-    const Record few = WORDS(least - 1);
+    const Record good[PLACES] = {x, everything, person, s, WORDS(least), NUMBER(WEARS)};
+    const Record few = WORDS(least - 1), undeclared = NUMBER(WEARS + 1);
     if (!faulty) return good[p];
     if (p == SCHEMA) return bad_schemas[n];
     if (p == STATE) return bad_states[n];
     if (p == LENT) return few;
+    if (p == ATTRIBUTE) return undeclared;
     return bad_concepts[n];
 }
 
@@ -297,7 +325,7 @@ static void nulls(void)
     clear_lent();
     for (int entry = 0; entry < ENTRIES; entry++)
         for (int p = 0; p < PLACES; p++) {
-            if (!HAS[entry][p]) continue;
+            if (!HAS[entry][p] || p == ATTRIBUTE) continue;
             Record r[PLACES];
             for (int q = 0; q < PLACES; q++) r[q] = record_at(entry, q, 0, 0);
             r[p] = (Record)NONE;
@@ -307,23 +335,29 @@ static void nulls(void)
     check(call(SELECT, ON(no_axioms, everything, NONE, no_objects, NONE), NULL, outs) == 0 && outs[0] == 0, "no lent words", 0);
 }
 
+/* So many steps along attribute 0. */
+static Record chain(int steps)
+{
+    static uint16_t words[BIKUVOA_MAX_CONCEPT_WORDS];
+    bikuvoa_concept c = bikuvoa_start_concept(words, BIKUVOA_MAX_CONCEPT_WORDS);
+    bikuvoa_empty(&c);
+    for (int i = 0; i < steps; i++) {
+        bikuvoa_everything(&c);
+        bikuvoa_forward(&c, 0);
+    }
+    bikuvoa_reached(&c);
+    return (Record){c.length, c.words};
+}
+
 /* One record at a time, and so whose refusal it is. */
 static void checks(void)
 {
-    uint16_t words[BIKUVOA_MAX_CONCEPT_WORDS];
-    bikuvoa_concept seven = bikuvoa_start_concept(words, BIKUVOA_MAX_CONCEPT_WORDS);
-    bikuvoa_empty(&seven);
-    for (int i = 0; i <= BIKUVOA_VIEW_STEPS; i++) {
-        bikuvoa_everything(&seven);
-        bikuvoa_forward(&seven, WEARS);
-    }
-    bikuvoa_reached(&seven);
-    check(bikuvoa_query_refusal(x.at, x.words, seven.words, seven.length) == BIKUVOA_ACCEPTED, "a query of seven steps", 0);
-    check(bikuvoa_view_refusal(x.at, x.words, seven.words, seven.length) == BIKUVOA_BAD_STEPS, "a view of seven steps", 0);
+    Record seven = chain(BIKUVOA_VIEW_STEPS + 1);
+    check(bikuvoa_query_refusal(x.at, x.words, seven.at, seven.words) == BIKUVOA_ACCEPTED, "a query of seven steps", 0);
+    check(bikuvoa_view_refusal(x.at, x.words, seven.at, seven.words) == BIKUVOA_BAD_STEPS, "a view of seven steps", 0);
     uint64_t held = 99;
-    Record steps = {seven.length, seven.words};
-    check(call(HOLDS, ON(x, person, steps), NULL, &held) == BIKUVOA_BAD_STEPS && held == 99, "seven steps in a view", 0);
-    check(call(HOLDS, ON(x, steps, person), NULL, &held) == 0 && held == 1, "seven steps in a query", 0);
+    check(call(HOLDS, ON(x, person, seven), NULL, &held) == BIKUVOA_BAD_STEPS && held == 99, "seven steps in a view", 0);
+    check(call(HOLDS, ON(x, seven, person), NULL, &held) == 0 && held == 1, "seven steps in a query", 0);
     check(bikuvoa_view_refusal(x.at, x.words, person.at, person.words) == BIKUVOA_ACCEPTED, "a view", 0);
     check(bikuvoa_query_refusal(x.at, x.words, NULL, 0) == BIKUVOA_BAD_CONCEPT_SHAPE, "no query", 0);
     check(bikuvoa_view_refusal(x.at, x.words, NULL, 0) == BIKUVOA_BAD_CONCEPT_SHAPE, "no view", 0);
@@ -379,14 +413,11 @@ static Record padded(Tokens tokens, size_t pairs)
 }
 
 /* Common objects at each side of the sizes that evaluation has room for: objects that are their own value (the last), and that
- * have a value of a value as a value (the last two), in concepts of up to 61 tokens. */
+ * have a value of a value as a value (the last two), in concepts of up to 61 tokens. The last has two links, any other one. */
 static void sizes(void)
 {
     static const size_t OBJECTS[] = {4, 63, 64, 65, 127, 128, 129, 191, 192, 193, 256, 257, 383, 384, 385, 479, 480};
     static uint16_t marks[BIKUVOA_MAX_OBJECTS];
-    uint16_t words[BIKUVOA_SCHEMA_WORDS(0)];
-    bikuvoa_schema one = bikuvoa_start_schema(words, BIKUVOA_SCHEMA_WORDS(0), 0, 1, 0);
-    Record schema = {one.length, one.words};
     Tokens own = TOKENS(EMPTY, EVERYTHING, FORWARD(0), EMPTY, COMMON);
     Tokens onward = TOKENS(EMPTY, EVERYTHING, FORWARD(0), EVERYTHING, FORWARD(0), EMPTY, EVERYTHING, FORWARD(0), COMMON);
     for (size_t i = 0; i < sizeof OBJECTS / sizeof *OBJECTS; i++) {
@@ -395,11 +426,14 @@ static void sizes(void)
         for (size_t pairs = 0; pairs <= 26; pairs++) {
             uint64_t out = 99;
             int row = (int)(100 * n + pairs);
-            check(call(SELECT, ON(schema, padded(own, pairs), NONE, state, WORDS(n)), marks, &out) == 0 && out == 1
+            check(call(SELECT, ON(one_attribute, padded(own, pairs), NONE, state, WORDS(n)), marks, &out) == 0 && out == 1
                       && marks[n - 1] == 1, "the last object's own value", row);
-            check(call(SELECT, ON(schema, padded(onward, pairs), NONE, state, WORDS(n)), marks, &out) == 0 && out == 2
+            links(ON(one_attribute, padded(own, pairs), NONE, state), 0, 2, "the last object's links", row);
+            check(call(SELECT, ON(one_attribute, padded(onward, pairs), NONE, state, WORDS(n)), marks, &out) == 0 && out == 2
                       && marks[n - 1] == 1 && marks[n - 2] == 1, "a value's value", row);
+            links(ON(one_attribute, padded(onward, pairs), NONE, state), 0, 3, "the last two objects' links", row);
         }
+        links(ON(one_attribute, everything, NONE, state), 0, n + 1, "all links", (int)n);
     }
 }
 
@@ -426,6 +460,118 @@ static void limits(void)
     bikuvoa_pair(&largest, 0, 0, 17);
     state.words = largest.length;
     check(call(LEGAL, ON(schema, NONE, NONE, state), NULL, &out) == 7, "15,381 facts", 6);
+}
+
+/* Links. */
+
+/* Objects 0 to 3 are persons, 4 and 5 straps. Attribute 1 has 6 pairs from a person, and whatever might be taken for that
+ * count is another number: 4 persons, 3 of them with a value, 2 objects that are their values; 9 pairs in all, to 5 objects, 1
+ * of them to a person; and in the attributes beside it 7 and 1 from a person, 8 and 12 in all. */
+static Record season(void)
+{
+    static const uint16_t PAIRS[][3] = {
+        {0, 0, 0}, {0, 0, 1}, {0, 0, 2}, {0, 0, 3}, {0, 0, 4}, {0, 0, 5}, {0, 0, 6}, {0, 7, 0},
+        {1, 0, 4}, {1, 0, 5}, {1, 1, 4}, {1, 1, 5}, {1, 2, 4}, {1, 2, 5}, {1, 4, 0}, {1, 4, 6}, {1, 6, 7},
+        {2, 3, 7}, {2, 4, 0}, {2, 4, 1}, {2, 4, 2}, {2, 4, 3}, {2, 5, 0}, {2, 5, 1}, {2, 5, 2}, {2, 5, 3}, {2, 6, 0}, {2, 6, 1},
+        {2, 6, 2},
+    };
+    static uint16_t words[BIKUVOA_STATE_WORDS(4 + 2 + sizeof PAIRS / sizeof *PAIRS)];
+    bikuvoa_state state = bikuvoa_start_state(words, sizeof words / sizeof *words, 8);
+    for (size_t d = 0; d < 4; d++) bikuvoa_member(&state, PERSON, d);
+    for (size_t d = 4; d < 6; d++) bikuvoa_member(&state, STRAP, d);
+    for (size_t i = 0; i < sizeof PAIRS / sizeof *PAIRS; i++) bikuvoa_pair(&state, PAIRS[i][0], PAIRS[i][1], PAIRS[i][2]);
+    return (Record){state.length, state.words};
+}
+
+/* The first 300 of 480 objects are persons, the last 100 straps. Of attribute 0 object 0 has every value, and every object has
+ * the last as a value; of attribute 1 each has itself and the next 28; of attribute 2 the first 101 have themselves. That makes
+ * 15,380 facts. */
+static Record crowd(void)
+{
+    static uint16_t words[BIKUVOA_MAX_STATE_WORDS];
+    bikuvoa_state state = bikuvoa_start_state(words, BIKUVOA_MAX_STATE_WORDS, 480);
+    for (size_t d = 0; d < 480; d++) {
+        if (d < 300) bikuvoa_member(&state, PERSON, d);
+        if (d >= 380) bikuvoa_member(&state, STRAP, d);
+        bikuvoa_pair(&state, 0, 0, d);
+        bikuvoa_pair(&state, 0, d, 479);
+        for (size_t e = d; e < d + 29; e++) bikuvoa_pair(&state, 1, d, e % 480);
+        if (d < 101) bikuvoa_pair(&state, 2, d, d);
+    }
+    return (Record){state.length, state.words};
+}
+
+/* The links of attributes 0 to 3 from what is selected; attribute 3 has none. */
+static const struct {
+    Tokens tokens;
+    uint64_t in_season[4], in_crowd[4];
+} COUNTS[] = {
+    {TOKENS(CLASS(PERSON)), {7, 6, 1, 0}, {480 + 299, 300 * 29, 101, 0}},
+    {TOKENS(CLASS(STRAP)), {0, 2, 8, 0}, {100, 100 * 29, 0, 0}},
+    {TOKENS(EVERYTHING), {8, 9, 12, 0}, {480 + 479, 480 * 29, 101, 0}},
+    {TOKENS(CLASS(PERSON), CLASS(STRAP), BOTH), {0, 0, 0, 0}, {0, 0, 0, 0}},
+    {TOKENS(EMPTY, CLASS(STRAP), FORWARD(1), REACHED), {7, 6, 0, 0}, {128, 128 * 29, 0, 0}},
+    {TOKENS(EMPTY, EVERYTHING, FORWARD(2), EMPTY, COMMON), {0, 0, 0, 0}, {480 + 100, 101 * 29, 101, 0}},
+};
+
+static void link_counts(void)
+{
+    Record schema = declaring(2, 4, 0), few = season(), many = crowd();
+    check(many.words == BIKUVOA_MAX_STATE_WORDS, "15,380 facts", 0);
+    for (int row = 0; row < (int)(sizeof COUNTS / sizeof *COUNTS); row++) {
+        Record concept = concept_of(COUNTS[row].tokens);
+        for (size_t p = 0; p < 4; p++) {
+            links(ON(schema, concept, NONE, few, NONE, NUMBER(p)), 0, COUNTS[row].in_season[p], "links", row);
+            links(ON(schema, concept, NONE, many, NONE, NUMBER(p)), 0, COUNTS[row].in_crowd[p], "many links", row);
+        }
+    }
+}
+
+/* Beside the facts of the first attribute stand those of the last class, beside those of the last attribute those of the first
+ * constant; the attributes between them have none. */
+static void link_kinds(void)
+{
+    Record schema = declaring(24, 8, 4), last_class = concept_of((Tokens)TOKENS(CLASS(23)));
+    uint16_t words[BIKUVOA_STATE_WORDS(5 + 3 + 4 + 4)];
+    bikuvoa_state kinds = bikuvoa_start_state(words, sizeof words / sizeof *words, 6);
+    for (size_t d = 0; d < 5; d++) bikuvoa_member(&kinds, 23, d);
+    for (size_t k = 0; k < 4; k++) bikuvoa_name(&kinds, k, k);
+    for (size_t d = 0; d < 3; d++) bikuvoa_pair(&kinds, 0, 5 - d, d);
+    for (size_t d = 0; d < 4; d++) bikuvoa_pair(&kinds, 7, 5 - d, d);
+    Record state = {kinds.length, kinds.words};
+    for (size_t p = 0; p < 8; p++) {
+        uint64_t all = p == 0 ? 3 : p == 7 ? 4 : 0;
+        links(ON(schema, everything, NONE, state, NONE, NUMBER(p)), 0, all, "links by kind", (int)p);
+        links(ON(schema, last_class, NONE, state, NONE, NUMBER(p)), 0, all ? all - 1 : 0, "links by kind and class", (int)p);
+    }
+}
+
+/* Any number may be passed: also one that, cut to fewer bits, would be an attribute or give the kind of a fact. */
+static void undeclared_attributes(void)
+{
+    static const size_t UNDECLARED[] = {8, 104, 128, 256, 32768, 65512, 65535};
+    for (size_t n = 0; n <= 8; n++) {
+        Record schema = declaring(0, n, 0);
+        for (size_t p = 0; p < n; p++)
+            links(ON(schema, everything, NONE, no_objects, NONE, NUMBER(p)), 0, 0, "no objects", (int)n);
+        links(ON(schema, everything, NONE, no_objects, NONE, NUMBER(n)), BIKUVOA_BAD_ATTRIBUTE, 0, "past the last", (int)n);
+        for (size_t i = 0; i < sizeof UNDECLARED / sizeof *UNDECLARED; i++)
+            links(ON(schema, everything, NONE, no_objects, NONE, NUMBER(UNDECLARED[i])), BIKUVOA_BAD_ATTRIBUTE, 0,
+                  "far past the last", (int)n);
+    }
+}
+
+/* As many steps as a query may have: in a ring, paths of any length lead from every object. A state without facts. And one that
+ * is not legal: in S no strap wears anything. */
+static void what_links_take(void)
+{
+    Record state = ring(4);
+    for (int steps = 0; steps <= BIKUVOA_QUERY_STEPS; steps++)
+        links(ON(one_attribute, chain(steps), NONE, state), 0, 5, "steps", steps);
+    links(ON(one_attribute, chain(BIKUVOA_QUERY_STEPS + 1), NONE, state), BIKUVOA_BAD_STEPS, 0, "a step too many", 0);
+    const uint16_t no_facts[BIKUVOA_STATE_WORDS(0)] = {480, 0};
+    links(ON(one_attribute, everything, NONE, {BIKUVOA_STATE_WORDS(0), no_facts}), 0, 0, "links without facts", 0);
+    links(ON(x_needs, everything, NONE, s, NONE, NUMBER(WEARS)), 0, 2, "links of an illegal state", 0);
 }
 
 /* The stack of a call. It runs on a painted one of twice the documented size, and what it took is up to the deepest byte that
@@ -607,9 +753,10 @@ static void stacks(void)
         }
     }
     check(most_objects > 300, "a verdict that needs many objects", 0);
-    printf("stack, measured in KB: select %zu, legal %zu, counterexample %zu, decide %zu, holds %zu; allowed %d\n",
-           most[SELECT] / 1024, most[LEGAL] / 1024, most[COUNTEREXAMPLE] / 1024, most[DECIDE] / 1024, most[HOLDS] / 1024,
-           BIKUVOA_STACK_BYTES / 1024);
+    printf("stack, measured in KB: select %zu, legal %zu, counterexample %zu, links by first %zu, links by second %zu, "
+           "decide %zu, holds %zu; allowed %d\n",
+           most[SELECT] / 1024, most[LEGAL] / 1024, most[COUNTEREXAMPLE] / 1024, most[LINKS_BY_FIRST] / 1024,
+           most[LINKS_BY_SECOND] / 1024, most[DECIDE] / 1024, most[HOLDS] / 1024, BIKUVOA_STACK_BYTES / 1024);
 }
 
 int main(void)
@@ -625,6 +772,10 @@ int main(void)
     checks();
     sizes();
     limits();
+    link_counts();
+    link_kinds();
+    undeclared_attributes();
+    what_links_take();
     stacks();
     printf("entries from C: %d checks passed\n", passed);
     return 0;
