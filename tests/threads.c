@@ -13,7 +13,7 @@
 #define OWN_FRAMES 65536
 
 enum { HELD, OPEN, REFUSED, DEEP, CASES };
-enum { SELECT, LEGAL, COUNTEREXAMPLE, DECIDE, HOLDS, ENTRIES };
+enum { SELECT, LEGAL, COUNTEREXAMPLE, LINKS_BY_FIRST, LINKS_BY_SECOND, DECIDE, HOLDS, ENTRIES };
 
 typedef struct {
     bikuvoa_concept query, view;
@@ -31,11 +31,11 @@ static Case cases[CASES];
 static Answer expected[CASES][ENTRIES];
 static pthread_barrier_t barrier;
 
-/* Class 0 needs attribute 0, which goes from class 1 to class 2: each object of 0 is in 1. */
+/* Class 0 needs attribute 0, which goes from class 1 to class 2: each object of 0 is in 1. No two states have as many links. */
 static void make_cases(void)
 {
     static uint16_t schema_words[BIKUVOA_SCHEMA_WORDS(2)], words[CASES][2][BIKUVOA_MAX_CONCEPT_WORDS];
-    static uint16_t state_words[CASES][BIKUVOA_STATE_WORDS(6)];
+    static uint16_t state_words[CASES][BIKUVOA_STATE_WORDS(3 + 2 * CASES)];
     schema = bikuvoa_start_schema(schema_words, BIKUVOA_SCHEMA_WORDS(2), 3, 1, 0);
     bikuvoa_necessary(&schema, 0, 0);
     bikuvoa_relates(&schema, 0, 1, 2);
@@ -43,12 +43,14 @@ static void make_cases(void)
         Case *c = &cases[i];
         c->query = bikuvoa_start_concept(words[i][0], BIKUVOA_MAX_CONCEPT_WORDS);
         c->view = bikuvoa_start_concept(words[i][1], BIKUVOA_MAX_CONCEPT_WORDS);
-        c->state = bikuvoa_start_state(state_words[i], BIKUVOA_STATE_WORDS(6), 3 + i);
+        c->state = bikuvoa_start_state(state_words[i], BIKUVOA_STATE_WORDS(3 + 2 * CASES), 3 + i);
         bikuvoa_member(&c->state, 0, i);
         bikuvoa_member(&c->state, 1, i);
         bikuvoa_member(&c->state, 1, 2);
-        bikuvoa_member(&c->state, 2, i);
-        if (i != HELD) bikuvoa_pair(&c->state, 0, i, i);
+        for (size_t value = 0; value <= i; value++) {
+            bikuvoa_member(&c->state, 2, value);
+            if (i != HELD) bikuvoa_pair(&c->state, 0, i, value);
+        }
     }
     bikuvoa_class(&cases[HELD].query, 0);
     bikuvoa_class(&cases[HELD].view, 1);
@@ -80,6 +82,11 @@ static void call(const Case *c, int entry, Answer *a)
     else if (entry == COUNTEREXAMPLE)
         a->returned = bikuvoa_counterexample(schema.words, schema.length, q.words, q.length, v.words, v.length, s.words,
                                              s.length, &a->outs[0]);
+    else if (entry == LINKS_BY_FIRST)
+        a->returned = bikuvoa_links_by_first(schema.words, schema.length, q.words, q.length, s.words, s.length, 0, &a->outs[0]);
+    else if (entry == LINKS_BY_SECOND)
+        a->returned = bikuvoa_links_by_second(schema.words, schema.length, q.words, q.length, s.words, s.length, 0,
+                                              &a->outs[0]);
     else if (entry == DECIDE)
         a->returned = bikuvoa_decide(schema.words, schema.length, q.words, q.length, v.words, v.length, a->lent,
                                      BIKUVOA_DECIDE_WORDS, &a->outs[0], &a->outs[1]);
@@ -121,8 +128,11 @@ int main(void)
         for (int entry = 0; entry < ENTRIES; entry++) call(&cases[i], entry, &expected[i][entry]);
     for (int i = 0; i < CASES; i++) {
         const Answer *decide = &expected[i][DECIDE], *holds = &expected[i][HOLDS];
+        const Answer *first = &expected[i][LINKS_BY_FIRST], *second = &expected[i][LINKS_BY_SECOND];
+        uint64_t links = i == HELD ? 0 : (uint64_t)i + 1;
         if (decide->returned != NUMBERS[i] || (decide->outs[0] == 0) != (i == HELD)) return 1;
         if (holds->returned != NUMBERS[i] || (holds->outs[0] == 1) != (i == HELD)) return 1;
+        if (first->returned || first->outs[0] != links || second->returned || second->outs[0] != links) return 1;
     }
     if (pthread_barrier_init(&barrier, NULL, THREADS) || pthread_attr_init(&attributes)
         || pthread_attr_setstacksize(&attributes, BIKUVOA_STACK_BYTES + OWN_FRAMES)) return 1;
