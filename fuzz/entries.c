@@ -1,4 +1,4 @@
-/* A libFuzzer target over the five entries. An input is read as records of arbitrary words, or as instructions for records
+/* A libFuzzer target over the seven entries. An input is read as records of arbitrary words, or as instructions for records
  * that are mostly accepted, which may then be damaged. Every record and all lent words end at a page that cannot be touched.
  * What the entries promise of each other is checked: see check_*.
  *
@@ -19,8 +19,8 @@
 
 int LLVMFuzzerTestOneInput(const uint8_t *data, size_t size);
 
-/* How many calls of decide had each verdict. */
-static unsigned long verdicts[4];
+/* How many calls of decide had each verdict, and how many counts of links were above 0, or refused for the attribute. */
+static unsigned long verdicts[4], linked, undeclared;
 
 #define CHECK(ok) ((ok) ? (void)0 : fail(#ok, __LINE__))
 
@@ -202,6 +202,13 @@ static void damage(Input *in, Words *records)
     else if (w->words) w->at[below(in, w->words)] ^= (uint16_t)(1 << below(in, 16));
 }
 
+/* Mostly a number that the schema may declare. */
+static uint16_t some_attribute(Input *in)
+{
+    size_t low = byte(in);
+    return (uint16_t)(low % 8 ? low / 8 % 4 : byte(in) * 256 + low);
+}
+
 /* What each call returned and wrote, if it was not refused. */
 
 static uint16_t selected(const Words *r, Words concept, Words state, size_t room, uint8_t *in_it)
@@ -256,6 +263,30 @@ static uint16_t check_counterexample(const Words *r, Words state, uint64_t *foun
     return 0;
 }
 
+/* Both counts are that of the attribute's facts whose first object is selected by select. */
+static uint16_t check_links(const Words *r, uint16_t attribute)
+{
+    uint8_t in_query[BIKUVOA_MAX_OBJECTS];
+    uint64_t first = UNTOUCHED_OUT, second = UNTOUCHED_OUT, links = 0;
+    uint16_t returned = bikuvoa_links_by_first(r[SCHEMA].at, r[SCHEMA].words, r[QUERY].at, r[QUERY].words, r[STATE].at,
+                                               r[STATE].words, attribute, &first);
+    CHECK(bikuvoa_links_by_second(r[SCHEMA].at, r[SCHEMA].words, r[QUERY].at, r[QUERY].words, r[STATE].at, r[STATE].words,
+                                  attribute, &second) == returned);
+    CHECK(second == first);
+    if (returned) {
+        CHECK(first == UNTOUCHED_OUT);
+        undeclared += returned == BIKUVOA_BAD_ATTRIBUTE;
+        return returned;
+    }
+    CHECK(selected(r, r[QUERY], r[STATE], BIKUVOA_MAX_OBJECTS, in_query) == 0);
+    for (size_t i = 0; i < bikuvoa_facts(r[STATE].at); i++)
+        if (bikuvoa_fact_kind(r[STATE].at, i) == BIKUVOA_ATTRIBUTE_KINDS + (size_t)attribute)
+            links += in_query[bikuvoa_fact_object(r[STATE].at, i)];
+    CHECK(first == links);
+    linked += links > 0;
+    return 0;
+}
+
 /* What decide has said, but for lent words, of which holds needs none. */
 static void check_holds(const Words *r, uint16_t decided, uint64_t objects)
 {
@@ -306,7 +337,12 @@ static uint16_t few_words(size_t room, size_t least)
     return room < least ? BIKUVOA_FEW_LENT_WORDS : 0;
 }
 
-static void check_all(const Words *r, size_t select_room, size_t decide_room)
+static uint16_t bad_attribute(size_t attribute, size_t attributes)
+{
+    return attribute < attributes ? 0 : BIKUVOA_BAD_ATTRIBUTE;
+}
+
+static void check_all(const Words *r, size_t select_room, uint16_t attribute, size_t decide_room)
 {
     uint8_t in_query[BIKUVOA_MAX_OBJECTS];
     uint64_t broken, found;
@@ -315,12 +351,14 @@ static void check_all(const Words *r, size_t select_room, size_t decide_room)
     uint16_t view = bikuvoa_view_refusal(r[SCHEMA].at, r[SCHEMA].words, r[VIEW].at, r[VIEW].words);
     uint16_t state = broken_axiom(r, r[STATE], &broken);
     size_t objects = state ? 0 : r[STATE].at[BIKUVOA_AT_OBJECTS];
+    size_t attributes = schema ? 0 : r[SCHEMA].at[BIKUVOA_AT_ATTRIBUTES];
     CHECK(schema <= BIKUVOA_BAD_AXIOM && query <= BIKUVOA_BAD_STEPS && view <= BIKUVOA_BAD_STEPS);
     CHECK(!schema || (query == schema && view == schema && state == schema));
     CHECK(schema || state == 0 || (BIKUVOA_BAD_STATE_SHAPE <= state && state <= BIKUVOA_BAD_CONSTANTS));
     CHECK(selected(r, r[QUERY], r[STATE], select_room, in_query)
           == first(first(query, state), few_words(select_room, objects)));
     CHECK(check_counterexample(r, r[STATE], &found) == first(first(query, view), state));
+    CHECK(check_links(r, attribute) == first(first(query, state), bad_attribute(attribute, attributes)));
     CHECK(check_decide(r, decide_room) == first(first(query, view), few_words(decide_room, BIKUVOA_DECIDE_WORDS)));
 }
 
@@ -337,6 +375,7 @@ int LLVMFuzzerTestOneInput(const uint8_t *data, size_t size)
     Input in = {data, size};
     Words r[STATE + 1];
     size_t way = byte(&in), rooms = byte(&in), objects;
+    uint16_t attribute = some_attribute(&in);
     if (way % 8 < 2) {
         for (int place = SCHEMA; place <= STATE; place++) r[place] = arbitrary(&in, place);
     } else {
@@ -348,7 +387,7 @@ int LLVMFuzzerTestOneInput(const uint8_t *data, size_t size)
         if (way % 8 < 4) damage(&in, r);
     }
     objects = r[STATE].words > BIKUVOA_AT_OBJECTS ? r[STATE].at[BIKUVOA_AT_OBJECTS] : 0;
-    check_all(r, objects > 0 && rooms % 4 == 0 ? objects - 1 : objects + rooms % 4,
+    check_all(r, objects > 0 && rooms % 4 == 0 ? objects - 1 : objects + rooms % 4, attribute,
               BIKUVOA_DECIDE_WORDS - (rooms / 4 % 8 == 0));
     check_held_by_itself(r);
     return 0;
@@ -367,8 +406,8 @@ int main(int argc, char **argv)
         }
         LLVMFuzzerTestOneInput(data, sizeof data);
     }
-    printf("%ld inputs: held %lu, open %lu, refused %lu\n", inputs, verdicts[BIKUVOA_HELD], verdicts[BIKUVOA_OPEN],
-           verdicts[BIKUVOA_REFUSED]);
-    return verdicts[BIKUVOA_HELD] && verdicts[BIKUVOA_OPEN] && verdicts[BIKUVOA_REFUSED] ? 0 : 1;
+    printf("%ld inputs: held %lu, open %lu, refused %lu; links %lu, attribute not declared %lu\n", inputs,
+           verdicts[BIKUVOA_HELD], verdicts[BIKUVOA_OPEN], verdicts[BIKUVOA_REFUSED], linked, undeclared);
+    return verdicts[BIKUVOA_HELD] && verdicts[BIKUVOA_OPEN] && verdicts[BIKUVOA_REFUSED] && linked && undeclared ? 0 : 1;
 }
 #endif
