@@ -18,7 +18,7 @@ HEADER = (ROOT / "include" / "bikuvoa.h").read_text()
 SOURCE = {name: (ROOT / "crates" / path).read_text() for name, path in {
     "schema": "records/src/schema.rt", "concept": "records/src/concept.rt", "state": "records/src/state.rt",
     "select": "judge/src/select.rt", "legal": "judge/src/legal.rt", "counterexample": "judge/src/counterexample.rt",
-    "decide": "decide/src/lib.rt", "holds": "decide/src/holds.rt"}.items()}
+    "links": "judge/src/links.rt", "decide": "decide/src/lib.rt", "holds": "decide/src/holds.rt"}.items()}
 held, faults = [], []
 
 
@@ -153,6 +153,12 @@ def facts(rows):
         past = last + 1
 
 
+def looked_at(source, name):
+    """What a function checks, in order, with what it leaves to its file's `check` in that one's place."""
+    found = re.findall(r"(?<!fn )\bcheck\(|check_\w+|lent\.len|attribute_number|Refused\(\d+\)", function(source, name))
+    return [look for part in found for look in (looked_at(source, "check") if part == "check(" else [part])]
+
+
 def refusals(rows, orders, lent):
     page = {}
     for n, name, record, _ in rows:
@@ -165,10 +171,12 @@ def refusals(rows, orders, lent):
         hold(f"refusals of a {record}", [0, *page[record]], [value(n) for n in code])
     hold("functions", [row[0] for row in orders], re.findall(r"^uint16_t bikuvoa_(\w+)\(", HEADER, re.M))
     hold("functions with lent words", [row[0] for row in lent], [entry for entry, text in orders if "lent words" in text])
+    hold("refusals of an attribute", [*page["attribute"], 0], [value(n) for n in re.findall(r"{ (\d+) }", function("links", "attribute_number"))])
+    looks = {"lent words": ["lent.len", *(f"Refused({n})" for n in page["lent words"])], "attribute": ["attribute_number"]}
     for entry, text in orders:
-        looks = {"lent words": ["lent.len", *(f"Refused({n})" for n in page["lent words"])]}
+        source, _, name = entry.partition("_")
         hold(f"checks of {entry}", [look for part in text.split(", ") for look in looks.get(part, [f"check_{part}"])],
-             re.findall(r"check_\w+|lent\.len|Refused\(\d+\)", function(entry, entry)))
+             looked_at(source, name or entry))
 
 
 # The example: the words of a table, and what its meanings must be by these words.
