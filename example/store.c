@@ -1,6 +1,6 @@
 /* A store that reads queries from stored lists. It keeps views, narrow ones first, each with the list of its objects. A query
  * is read from the first list that is sure to have all its objects, and filtered unless the list is sure to have no others.
- * With target/staticlib built:
+ * At the end it counts who attends what. With target/staticlib built:
  *
  *   cc -Iinclude example/store.c target/staticlib/libbikuvoa_c.a -o store && ./store */
 #include "bikuvoa.h"
@@ -178,6 +178,17 @@ static bikuvoa_concept *start_query(Query *query, const char *name, int (*has)(s
     return &query->is;
 }
 
+/* The season sheet goes person by person, the sheets of the sessions one by one: they count the same links. */
+static void count_attendances(const View *persons)
+{
+    uint64_t by_person = 0, by_session = 0;
+    bikuvoa_links_by_first(schema.words, schema.length, persons->is.words, persons->is.length, state.words, state.length,
+                           ATTENDS, &by_person);
+    bikuvoa_links_by_second(schema.words, schema.length, persons->is.words, persons->is.length, state.words, state.length,
+                            ATTENDS, &by_session);
+    printf("attendances: %d person by person, %d session by session\n", (int)by_person, (int)by_session);
+}
+
 int main(void)
 {
     Query query;
@@ -212,5 +223,7 @@ int main(void)
     c = start_query(&query, "straps", is_strap);
     bikuvoa_class(c, STRAP);
     answer(&query);
+
+    count_attendances(&views[2]);
     return 0;
 }
