@@ -1,10 +1,10 @@
-//! The five calls, on records of any words and on built ones.
+//! The seven calls, on records of any words and on built ones.
 
 use crate::concept::{Query, View};
 use crate::layout::{DECIDE_WORDS, MAX_OBJECTS, STATE};
 use crate::raw;
 use crate::refusal::Refusal;
-use crate::schema::Schema;
+use crate::schema::{Attribute, Schema};
 use crate::state::{Object, State};
 
 /// Whether a query may be read from a view.
@@ -73,6 +73,35 @@ pub fn counterexample(
     Ok(found.checked_sub(1).map(object))
 }
 
+/// How many links of the attribute have their first object in the query, where a
+/// link is a first object with a second as its value: for each object in the
+/// query, how many values it has, summed. The state need not be legal.
+pub fn links_by_first(
+    schema: &[u16],
+    query: &[u16],
+    state: &[u16],
+    attribute: u16,
+) -> Result<u64, Refusal> {
+    let mut links = 0;
+    let returned = raw::links_by_first(schema, query, state, attribute, &mut links);
+    Refusal::check(returned)?;
+    Ok(links)
+}
+
+/// The same number as [`links_by_first`], from the other side: for each object,
+/// how many objects in the query have it as a value, summed.
+pub fn links_by_second(
+    schema: &[u16],
+    query: &[u16],
+    state: &[u16],
+    attribute: u16,
+) -> Result<u64, Refusal> {
+    let mut links = 0;
+    let returned = raw::links_by_second(schema, query, state, attribute, &mut links);
+    Refusal::check(returned)?;
+    Ok(links)
+}
+
 /// Whether the query may be read from the view.
 pub fn decide(schema: &[u16], query: &[u16], view: &[u16]) -> Decision {
     let mut lent = vec![0; DECIDE_WORDS];
@@ -129,6 +158,29 @@ impl Schema {
         state: &State,
     ) -> Result<Option<Object>, Refusal> {
         counterexample(self.words(), query.words(), view.words(), state.words())
+    }
+
+    /// How many links of the attribute have their first object in the query: for
+    /// each object in the query, how many values it has, summed. The state need
+    /// not be legal.
+    pub fn links_by_first(
+        &self,
+        query: &Query,
+        state: &State,
+        Attribute(number): Attribute,
+    ) -> Result<u64, Refusal> {
+        links_by_first(self.words(), query.words(), state.words(), number)
+    }
+
+    /// The same number as [`Schema::links_by_first`], from the other side: for
+    /// each object, how many objects in the query have it as a value, summed.
+    pub fn links_by_second(
+        &self,
+        query: &Query,
+        state: &State,
+        Attribute(number): Attribute,
+    ) -> Result<u64, Refusal> {
+        links_by_second(self.words(), query.words(), state.words(), number)
     }
 
     /// Whether the query may be read from the view; see [`Decision::Held`] for

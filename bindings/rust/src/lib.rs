@@ -44,8 +44,9 @@
 //! The library takes records of 16-bit words (docs/RECORDS.md).
 //! [`SchemaBuilder`], [`Query`], [`View`] and [`StateBuilder`] make records that
 //! it accepts; what cannot be is a [`BuildError`]. The functions [`select`],
-//! [`legal`], [`counterexample`], [`decide`] and [`holds`] take any words, and a
-//! faulty record is a [`Refusal`]. [`raw`] has the calls as C has them, and
+//! [`legal`], [`counterexample`], [`links_by_first`], [`links_by_second`],
+//! [`decide`] and [`holds`] take any words; a faulty record, or an attribute that
+//! is not declared, is a [`Refusal`]. [`raw`] has the calls as C has them, and
 //! [`layout`] the numbers of the format.
 //!
 //! # Linking
@@ -74,7 +75,8 @@ mod refusal;
 mod schema;
 mod state;
 
-pub use calls::{counterexample, decide, holds, legal, select, Decision, Legality};
+pub use calls::{counterexample, decide, holds, legal, links_by_first, links_by_second, select};
+pub use calls::{Decision, Legality};
 pub use concept::{Concept, Path, Query, Token, View};
 pub use error::{BuildError, Item};
 pub use layout::Signature;

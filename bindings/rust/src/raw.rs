@@ -1,4 +1,4 @@
-//! The five functions as C has them (include/bikuvoa.h), on slices: any words
+//! The seven functions as C has them (include/bikuvoa.h), on slices: any words
 //! may be passed. Each returns 0, or the number of the first refusal that
 //! applies; a refused call alters no lent word and no out value.
 //!
@@ -35,6 +35,28 @@ extern "C" {
         state: *const u16,
         state_words: usize,
         found: *mut u64,
+    ) -> u16;
+
+    fn bikuvoa_links_by_first(
+        schema: *const u16,
+        schema_words: usize,
+        query: *const u16,
+        query_words: usize,
+        state: *const u16,
+        state_words: usize,
+        attribute: u16,
+        links: *mut u64,
+    ) -> u16;
+
+    fn bikuvoa_links_by_second(
+        schema: *const u16,
+        schema_words: usize,
+        query: *const u16,
+        query_words: usize,
+        state: *const u16,
+        state_words: usize,
+        attribute: u16,
+        links: *mut u64,
     ) -> u16;
 
     fn bikuvoa_decide(
@@ -129,6 +151,57 @@ pub fn counterexample(
             state.as_ptr(),
             state.len(),
             found,
+        )
+    }
+}
+
+/// A link is a pair of the attribute: a first object with a second as its value.
+/// `links` becomes how many links have their first object in the query: for each
+/// object in the query, how many values of the attribute it has, summed. Refused
+/// as 12 if the attribute is not declared.
+pub fn links_by_first(
+    schema: &[u16],
+    query: &[u16],
+    state: &[u16],
+    attribute: u16,
+    links: &mut u64,
+) -> u16 {
+    // SAFETY: as for `select`.
+    unsafe {
+        bikuvoa_links_by_first(
+            schema.as_ptr(),
+            schema.len(),
+            query.as_ptr(),
+            query.len(),
+            state.as_ptr(),
+            state.len(),
+            attribute,
+            links,
+        )
+    }
+}
+
+/// `links` becomes the same number as with `links_by_first`, from the other side:
+/// for each object, how many objects in the query have it as a value of the
+/// attribute, summed. Refused as 12 if the attribute is not declared.
+pub fn links_by_second(
+    schema: &[u16],
+    query: &[u16],
+    state: &[u16],
+    attribute: u16,
+    links: &mut u64,
+) -> u16 {
+    // SAFETY: as for `select`.
+    unsafe {
+        bikuvoa_links_by_second(
+            schema.as_ptr(),
+            schema.len(),
+            query.as_ptr(),
+            query.len(),
+            state.as_ptr(),
+            state.len(),
+            attribute,
+            links,
         )
     }
 }

@@ -1,4 +1,4 @@
-//! Refused records.
+//! Refused calls.
 
 use std::error::Error;
 use std::fmt;
@@ -19,9 +19,10 @@ impl Refusal {
     pub const BAD_ORDER: Refusal = Refusal(9);
     pub const BAD_CONSTANTS: Refusal = Refusal(10);
     pub const FEW_LENT_WORDS: Refusal = Refusal(11);
+    pub const BAD_ATTRIBUTE: Refusal = Refusal(12);
 
     /// The refusal with the highest number.
-    pub const LAST: Refusal = Refusal::FEW_LENT_WORDS;
+    pub const LAST: Refusal = Refusal::BAD_ATTRIBUTE;
 
     /// The refusal's number, from 1 on.
     pub const fn number(self) -> u16 {
@@ -83,6 +84,9 @@ impl Refusal {
             }
             Refusal::FEW_LENT_WORDS => {
                 "lent words: too few"
+            }
+            Refusal::BAD_ATTRIBUTE => {
+                "attribute: not declared"
             }
             // A library later than this crate may have more of them.
             _ => "a refusal that is not known here",

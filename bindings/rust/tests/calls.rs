@@ -1,7 +1,8 @@
-//! The calls: the twelve small states, refusals on raw words, and threads.
+//! The calls: the twelve small states, links counted by hand, refusals on raw
+//! words, and threads.
 
 use bikuvoa::layout::{self, axiom, fact, token, Signature};
-use bikuvoa::{counterexample, decide, holds, legal, raw, select};
+use bikuvoa::{counterexample, decide, holds, legal, links_by_first, links_by_second, raw, select};
 use bikuvoa::{Attribute, Class, Concept, Constant, Decision, Legality, Object, Path, Query};
 use bikuvoa::{Refusal, Schema, SchemaBuilder, State, StateBuilder, View};
 
@@ -105,6 +106,59 @@ fn the_small_verdicts() {
     }
 }
 
+/// Persons 0 to 3 and straps 4 to 6. Person 0 wears every strap and person 1 two
+/// of them, so the axiom is broken, and a strap wears itself. Straps lend too.
+#[test]
+fn the_counts_of_links() {
+    const LENDS: Attribute = Attribute(1);
+    let signature = Signature {
+        classes: 2,
+        attributes: 2,
+        constants: 0,
+    };
+    let mut builder = SchemaBuilder::numbered(signature).expect("few enough");
+    builder.single(PERSON, WEARS).expect("an axiom");
+    let schema = builder.build();
+    let mut builder = StateBuilder::new(&schema);
+    for number in 0..7 {
+        let object = builder.object().expect("an object");
+        let class = if number < 4 { PERSON } else { STRAP };
+        builder.member(class, object).expect("a fact");
+    }
+    let wears = [(0, 4), (0, 5), (0, 6), (1, 4), (1, 5), (6, 6)];
+    let lends = [(0, 1), (5, 1), (5, 2), (6, 2)];
+    for (attribute, pairs) in [(WEARS, &wears[..]), (LENDS, &lends)] {
+        for &(first, second) in pairs {
+            let pair = builder.pair(attribute, Object(first), Object(second));
+            pair.expect("a fact");
+        }
+    }
+    let state = builder.build().expect("a state");
+    assert_eq!(schema.legal(&state), Ok(Legality::Broken(0)));
+
+    let (all, person) = (Concept::everything(), Concept::class(PERSON));
+    let strap = Concept::class(STRAP);
+    let wearers = Concept::reached(Path::empty().forward(WEARS, all.clone()));
+    for (concept, attribute, expected) in [
+        // Of 6 pairs, by 2 of the 4 persons, to 3 straps.
+        (&person, WEARS, 5),
+        (&person, LENDS, 1),
+        (&strap, WEARS, 1),
+        (&strap, LENDS, 3),
+        (&wearers, WEARS, 6),
+        (&wearers, LENDS, 2),
+        (&all, WEARS, 6),
+        (&all, LENDS, 4),
+        (&Concept::both(person.clone(), strap.clone()), WEARS, 0),
+    ] {
+        let query = Query::new(&schema, concept).expect("a query");
+        let links = schema.links_by_first(&query, &state, attribute);
+        assert_eq!(links, Ok(expected), "{concept:?}, {attribute:?}");
+        let links = schema.links_by_second(&query, &state, attribute);
+        assert_eq!(links, Ok(expected), "{concept:?}, {attribute:?}");
+    }
+}
+
 /// A schema, a concept and a state that are accepted.
 struct Words {
     schema: Vec<u16>,
@@ -178,6 +232,14 @@ fn number<T>(answer: Result<T, Refusal>) -> u16 {
     answer.err().map_or(0, Refusal::number)
 }
 
+/// What both counts of links are refused as.
+fn counted(schema: &[u16], query: &[u16], state: &[u16], attribute: u16) -> u16 {
+    let by_first = number(links_by_first(schema, query, state, attribute));
+    let by_second = number(links_by_second(schema, query, state, attribute));
+    assert_eq!(by_first, by_second);
+    by_first
+}
+
 fn decided(schema: &[u16], query: &[u16], view: &[u16]) -> u16 {
     match decide(schema, query, view) {
         Decision::Refused(refusal) => refusal.number(),
@@ -196,6 +258,7 @@ fn each_entry_refuses_each_faulty_record() {
         assert_eq!(number(select(&faulty, &[], &[])), expected);
         assert_eq!(number(legal(&faulty, &[])), expected);
         assert_eq!(number(counterexample(&faulty, &[], &[], &[])), expected);
+        assert_eq!(counted(&faulty, &[], &[], u16::MAX), expected);
         assert_eq!(decided(&faulty, &[], &[]), expected);
         assert_eq!(number(holds(&faulty, &[], &[])), expected);
         assert_eq!(number(Schema::from_words(faulty)), expected);
@@ -207,6 +270,7 @@ fn each_entry_refuses_each_faulty_record() {
         assert_eq!(number(as_query), expected);
         let as_view = counterexample(&schema, &concept, &faulty, &[]);
         assert_eq!(number(as_view), expected);
+        assert_eq!(counted(&schema, &faulty, &[], u16::MAX), expected);
         assert_eq!(decided(&schema, &faulty, &[]), expected);
         assert_eq!(decided(&schema, &concept, &faulty), expected);
         assert_eq!(number(holds(&schema, &faulty, &[])), expected);
@@ -222,11 +286,34 @@ fn each_entry_refuses_each_faulty_record() {
         assert_eq!(number(legal(&schema, &faulty)), expected);
         let found = counterexample(&schema, &concept, &concept, &faulty);
         assert_eq!(number(found), expected);
+        assert_eq!(counted(&schema, &concept, &faulty, WEARS.0), expected);
+        assert_eq!(counted(&schema, &concept, &faulty, u16::MAX), expected);
         assert_eq!(number(State::from_words(&accepted, faulty)), expected);
     }
     assert_eq!(number(select(&schema, &concept, &state)), 0);
+    assert_eq!(counted(&schema, &concept, &state, WEARS.0), 0);
     assert_eq!(decided(&schema, &concept, &concept), 0);
     assert_eq!(number(holds(&schema, &concept, &concept)), 0);
+}
+
+#[test]
+fn an_undeclared_attribute_is_refused() {
+    let Words {
+        schema,
+        concept,
+        state,
+    } = words();
+    assert_eq!(counted(&schema, &concept, &state, STRAPS.attributes - 1), 0);
+    for undeclared in [STRAPS.attributes, layout::MAX_ATTRIBUTES, 256, u16::MAX] {
+        assert_eq!(counted(&schema, &concept, &state, undeclared), 12);
+    }
+    let schema = straps().build();
+    let state = worn(&schema);
+    let query = Query::new(&schema, &Concept::everything()).expect("a query");
+    let undeclared = Attribute(STRAPS.attributes);
+    let refused = Err(Refusal::BAD_ATTRIBUTE);
+    assert_eq!(schema.links_by_first(&query, &state, undeclared), refused);
+    assert_eq!(schema.links_by_second(&query, &state, undeclared), refused);
 }
 
 #[test]
@@ -248,6 +335,15 @@ fn a_refused_call_alters_nothing() {
     assert_eq!((returned, lent, out, second), (3, [7; 4], 99, 98));
     let returned = raw::holds(&schema, &concept, &[], &mut out);
     assert_eq!((returned, out), (3, 99));
+    for links in [raw::links_by_first, raw::links_by_second] {
+        let returned = links(&schema, &concept, &[], WEARS.0, &mut out);
+        assert_eq!((returned, out), (7, 99));
+        let returned = links(&schema, &concept, &state, STRAPS.attributes, &mut out);
+        assert_eq!((returned, out), (12, 99));
+        let mut out = out;
+        let returned = links(&schema, &concept, &state, WEARS.0, &mut out);
+        assert_eq!((returned, out), (0, 2));
+    }
 
     let returned = raw::select(&schema, &concept, &state, &mut lent, &mut out);
     assert_eq!((returned, lent, out), (0, [1, 1, 1, 7], 3));
@@ -260,7 +356,11 @@ fn a_refused_call_alters_nothing() {
 
 #[test]
 fn each_refusal_has_a_text() {
-    let Words { schema, state, .. } = words();
+    let Words {
+        schema,
+        concept,
+        state,
+    } = words();
     let mut texts = std::collections::BTreeSet::new();
     let mut numbers = Vec::new();
     let mut refusals = Vec::new();
@@ -273,6 +373,7 @@ fn each_refusal_has_a_text() {
     for (_, faulty) in faulty_states() {
         refusals.extend(legal(&schema, &faulty).err());
     }
+    refusals.extend(links_by_first(&schema, &concept, &state, u16::MAX).err());
     for refusal in refusals {
         let text = refusal.to_string();
         assert!(text.starts_with(&format!("refused as {}: ", refusal.number())));
@@ -280,9 +381,12 @@ fn each_refusal_has_a_text() {
         numbers.push(refusal.number());
     }
     numbers.dedup();
-    // The safe calls lend enough, so the last refusal does not come up.
-    assert_eq!(numbers, (1..Refusal::LAST.number()).collect::<Vec<u16>>());
-    texts.insert(Refusal::LAST.to_string());
+    // The safe calls lend enough, so one refusal does not come up.
+    let few = Refusal::FEW_LENT_WORDS;
+    numbers.push(few.number());
+    numbers.sort_unstable();
+    assert_eq!(numbers, (1..=Refusal::LAST.number()).collect::<Vec<u16>>());
+    texts.insert(few.to_string());
     assert_eq!(texts.len(), usize::from(Refusal::LAST.number()));
     assert!(texts.iter().all(|text| !text.contains("not known")));
 }
@@ -299,13 +403,15 @@ fn a_record_of_another_schema_is_refused() {
     assert_eq!(number(other.select(&all, &state)), 8);
     assert_eq!(number(other.legal(&state)), 8);
     assert_eq!(number(other.counterexample(&all, &view, &state)), 4);
+    assert_eq!(number(other.links_by_first(&query, &state, WEARS)), 4);
+    assert_eq!(number(other.links_by_second(&all, &state, WEARS)), 8);
     let decision = other.decide(&query, &view);
     assert!(matches!(decision, Decision::Refused(_)), "{decision:?}");
     assert_eq!(number(other.holds(&query, &view)), 4);
 }
 
 /// A thread with just the stack that is said to be enough decides a deep query
-/// of all the steps that there may be.
+/// of all the steps that there may be, and counts links.
 #[test]
 fn the_stack_is_enough() {
     let schema = straps().build();
@@ -315,13 +421,18 @@ fn the_stack_is_enough() {
     }
     let query = Query::new(&schema, &nested).expect("a query");
     let view = View::new(&schema, &Concept::class(STRAP)).expect("a view");
+    let state = worn(&schema);
     std::thread::scope(|scope| {
         let small = std::thread::Builder::new().stack_size(raw::STACK_BYTES);
-        let both = || (schema.decide(&query, &view), schema.holds(&query, &view));
-        let answers = small.spawn_scoped(scope, both).expect("a thread").join();
-        let (decision, held) = answers.expect("two answers");
-        assert!(matches!(decision, Decision::Open { .. }), "{decision:?}");
-        assert_eq!(held, Ok(false));
+        let calls = || {
+            let decision = schema.decide(&query, &view);
+            assert!(matches!(decision, Decision::Open { .. }), "{decision:?}");
+            assert_eq!(schema.holds(&query, &view), Ok(false));
+            assert_eq!(schema.links_by_first(&query, &state, WEARS), Ok(0));
+            assert_eq!(schema.links_by_second(&query, &state, WEARS), Ok(0));
+        };
+        let thread = small.spawn_scoped(scope, calls).expect("a thread");
+        thread.join().expect("the answers");
     });
 }
 

@@ -6,7 +6,7 @@ use bikuvoa::{raw, Refusal};
 use std::collections::BTreeMap;
 
 /// Each refusal by the header's name.
-const REFUSALS: [(&str, Refusal); 11] = [
+const REFUSALS: [(&str, Refusal); 12] = [
     ("BAD_SCHEMA_SHAPE", Refusal::BAD_SCHEMA_SHAPE),
     ("BAD_AXIOM", Refusal::BAD_AXIOM),
     ("BAD_CONCEPT_SHAPE", Refusal::BAD_CONCEPT_SHAPE),
@@ -18,6 +18,7 @@ const REFUSALS: [(&str, Refusal); 11] = [
     ("BAD_ORDER", Refusal::BAD_ORDER),
     ("BAD_CONSTANTS", Refusal::BAD_CONSTANTS),
     ("FEW_LENT_WORDS", Refusal::FEW_LENT_WORDS),
+    ("BAD_ATTRIBUTE", Refusal::BAD_ATTRIBUTE),
 ];
 
 /// The macros and enumerators that are numbers or products of numbers, without

@@ -184,6 +184,14 @@ fn objects_and_facts() {
     let all = Query::new(&schema, &Concept::everything()).expect("a query");
     let selected = schema.select(&all, &state).expect("a selection");
     assert_eq!(selected.len(), MAX_OBJECTS.into());
+    let (last, one_more) = (Attribute(MAX_ATTRIBUTES - 1), Attribute(MAX_ATTRIBUTES));
+    let refused = Err(Refusal::BAD_ATTRIBUTE);
+    for (attribute, expected) in [(last, Ok(MAX_OBJECTS.into())), (one_more, refused)] {
+        let links = schema.links_by_first(&all, &state, attribute);
+        assert_eq!(links, expected);
+        let links = schema.links_by_second(&all, &state, attribute);
+        assert_eq!(links, expected);
+    }
 
     let mut words = state.words().to_vec();
     words[0] += 1;
@@ -191,6 +199,27 @@ fn objects_and_facts() {
     let facts = vec![fact::member(0, 0); MAX_FACTS + 1];
     let words = layout::state(1, &facts);
     assert_eq!(refused_as(State::from_words(&schema, words)), Some(7));
+}
+
+/// As many links as there may be facts.
+#[test]
+fn links() {
+    let signature = Signature {
+        attributes: 1,
+        ..Signature::default()
+    };
+    let builder = SchemaBuilder::numbered(signature).expect("few enough");
+    let schema = builder.build();
+    let pair = |number| fact::pair(0, number / MAX_OBJECTS, number % MAX_OBJECTS);
+    let facts: Vec<Pair> = (0..).map(pair).take(MAX_FACTS).collect();
+    let state = State::from_words(&schema, layout::state(MAX_OBJECTS, &facts));
+    let state = state.expect("a state");
+    let all = Query::new(&schema, &Concept::everything()).expect("a query");
+    let expected = Ok(MAX_FACTS as u64);
+    let links = schema.links_by_first(&all, &state, Attribute(0));
+    assert_eq!(links, expected);
+    let links = schema.links_by_second(&all, &state, Attribute(0));
+    assert_eq!(links, expected);
 }
 
 #[test]

@@ -2,9 +2,10 @@
 //! another way than by a refusal.
 
 use bikuvoa::layout::{MAX_ATTRIBUTES, MAX_CLASSES, MAX_CONSTANTS, QUERY_STEPS, VIEW_STEPS};
-use bikuvoa::{decide, holds, legal, select, Decision, Legality, Query, Refusal, Schema};
-use bikuvoa::{Attribute, Axiom, Class, Concept, Constant, Object, Path, Signature};
-use bikuvoa::{SchemaBuilder, State, StateBuilder, View};
+use bikuvoa::{decide, holds, legal, links_by_first, links_by_second, select};
+use bikuvoa::{Attribute, Axiom, Class, Concept, Constant, Fact, Object, Path, Signature};
+use bikuvoa::{Decision, Legality, Query, Refusal, Schema, State, View};
+use bikuvoa::{SchemaBuilder, StateBuilder};
 
 const DRAWS: usize = 2_000;
 
@@ -194,6 +195,43 @@ fn built_states_are_accepted() {
 }
 
 #[test]
+fn links_of_built_states_are_counted() {
+    let mut random = Random(6);
+    let (mut none, mut some, mut refused) = (0, 0, 0);
+    while none + some < DRAWS {
+        let schema = random.schema();
+        let query = Query::new(&schema, &random.concept(schema.signature(), 1));
+        let (Ok(query), Some(state)) = (query, random.state(&schema)) else {
+            continue;
+        };
+        let counted = random.attribute(schema.signature());
+        let selected = schema.select(&query, &state).expect("a selection");
+        let is_link = |fact: &Fact| match fact {
+            Fact::Pair {
+                attribute, first, ..
+            } => *attribute == counted && selected.contains(first),
+            _ => false,
+        };
+        let expected = if counted.0 < schema.signature().attributes {
+            Ok(state.facts().filter(is_link).count() as u64)
+        } else {
+            Err(Refusal::BAD_ATTRIBUTE)
+        };
+        let links = schema.links_by_first(&query, &state, counted);
+        assert_eq!(links, expected);
+        let links = schema.links_by_second(&query, &state, counted);
+        assert_eq!(links, expected);
+        match links {
+            Ok(0) => none += 1,
+            Ok(_) => some += 1,
+            Err(_) => refused += 1,
+        }
+    }
+    assert!(none > DRAWS / 20 && some > DRAWS / 20, "{none}, {some}");
+    assert!(refused > DRAWS / 40, "{refused}");
+}
+
+#[test]
 fn built_triples_are_decided() {
     let mut random = Random(4);
     let (mut held, mut open) = (0, 0);
@@ -240,6 +278,11 @@ fn any_words_are_answered() {
         let other = any_words(&mut random);
         let in_range = |refusal: Refusal| (1..=Refusal::LAST.number()).contains(&refusal.number());
         assert!(select(&schema, &one, &other).err().is_none_or(in_range));
+        let attribute = random.below(MAX_ATTRIBUTES);
+        for links in [links_by_first, links_by_second] {
+            let links = links(&schema, &one, &other, attribute);
+            assert!(links.err().is_none_or(in_range));
+        }
         assert!(legal(&schema, &one).err().is_none_or(in_range));
         let answer = holds(&schema, &one, &other);
         if let Decision::Refused(refusal) = decide(&schema, &one, &other) {
