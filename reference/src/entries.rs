@@ -1,11 +1,11 @@
-//! What can be asked, over raw records. Records are checked in the order
-//! schema, query or concept, view, state, lent words; `Err` holds the number
-//! of the refusal, and a refused call changes nothing.
+//! What can be asked, over raw records. Calls are checked in the order schema,
+//! query or concept, view, state, then attribute or lent words; `Err` holds the
+//! number of the refusal, and a refused call changes nothing.
 
 use crate::calculus::{self, Verdict};
 use crate::records::{self, QUERY_STEPS, VIEW_STEPS};
 use crate::semantics;
-use crate::syntax::{Concept, Schema};
+use crate::syntax::{Concept, Schema, State};
 
 /// The least number of lent words for a decision.
 pub const DECIDE_WORDS: usize = 30_762;
@@ -72,6 +72,29 @@ pub fn counterexample(
     )
 }
 
+/// Counts the links of the attribute whose first object is selected, by first
+/// objects.
+pub fn links_by_first(
+    schema: &[u16],
+    concept: &[u16],
+    state: &[u16],
+    attribute: u16,
+) -> Result<u64, u16> {
+    let (concept, state, attribute) = counted(schema, concept, state, attribute)?;
+    Ok(semantics::links_by_first(&state, &concept, attribute) as u64)
+}
+
+/// Counts the same links by second objects.
+pub fn links_by_second(
+    schema: &[u16],
+    concept: &[u16],
+    state: &[u16],
+    attribute: u16,
+) -> Result<u64, u16> {
+    let (concept, state, attribute) = counted(schema, concept, state, attribute)?;
+    Ok(semantics::links_by_second(&state, &concept, attribute) as u64)
+}
+
 /// Decides subsumption. No state is written, so only the number of lent words
 /// counts.
 pub fn decide(
@@ -98,6 +121,23 @@ fn triple(schema: &[u16], query: &[u16], view: &[u16]) -> Result<(Schema, Concep
     let query = records::concept(query, &schema, QUERY_STEPS)?;
     let view = records::concept(view, &schema, VIEW_STEPS)?;
     Ok((schema, query, view))
+}
+
+/// What a count of links is about; the attribute is checked last.
+fn counted(
+    schema: &[u16],
+    concept: &[u16],
+    state: &[u16],
+    attribute: u16,
+) -> Result<(Concept, State, usize), u16> {
+    let schema = records::schema(schema)?;
+    let concept = records::concept(concept, &schema, QUERY_STEPS)?;
+    let state = records::state(state, &schema)?;
+    let attribute = usize::from(attribute);
+    if attribute >= schema.attributes {
+        return Err(12);
+    }
+    Ok((concept, state, attribute))
 }
 
 /// Places and objects of accepted records stay far below the word's limit.

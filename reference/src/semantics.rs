@@ -1,9 +1,11 @@
 //! States judged by the set semantics of table 1.
 
 mod legality;
+mod links;
 mod selection;
 
 pub use legality::first_broken;
+pub use links::{links_by_first, links_by_second};
 pub use selection::selected;
 
 use crate::syntax::{Concept, Schema, State};

@@ -6,6 +6,7 @@ mod build;
 mod canonical;
 mod concept_refusals;
 mod lent_words;
+mod links;
 mod order_of_checks;
 mod patient;
 mod pointwise;

@@ -1,8 +1,9 @@
-//! The order in which the records of one call are checked.
+//! The order in which what one call passes is checked.
 
 use super::write::{axioms_record, record};
 use crate::calculus::Verdict;
 use crate::entries::{counterexample, decide, holds, legal, select, Counterexample};
+use crate::entries::{links_by_first, links_by_second};
 
 const CLASS: [u16; 4] = [1, 0, 1, 0];
 const EVERYTHING: [u16; 4] = [1, 0, 2, 0];
@@ -10,6 +11,9 @@ const BAD_TOKEN: [u16; 4] = [1, 0, 1, 1];
 const BAD_PILE: [u16; 4] = [1, 0, 5, 0];
 const BAD_STEPS: [u16; 4] = [1, 1, 2, 0];
 const BAD_STATE: [u16; 2] = [1, 0];
+
+/// Not declared, as the schema declares no attribute.
+const ATTRIBUTE: u16 = 0;
 
 fn schema() -> Vec<u16> {
     axioms_record([1, 0, 1], &[])
@@ -29,6 +33,10 @@ fn the_schema_comes_first() {
     assert_eq!(select(&bad_axiom(), &[], &[], &mut []), Err(2));
     assert_eq!(legal(&bad_axiom(), &[]), Err(2));
     assert_eq!(counterexample(&[1], &[], &[], &[]), Err(1));
+    for links in [links_by_first, links_by_second] {
+        assert_eq!(links(&[], &[], &[], ATTRIBUTE), Err(1));
+        assert_eq!(links(&bad_axiom(), &[], &[], ATTRIBUTE), Err(2));
+    }
     assert_eq!(decide(&bad_axiom(), &[], &[], 0), Err(2));
     assert_eq!(holds(&[], &[], &[]), Err(1));
     assert_eq!(holds(&bad_axiom(), &[], &[]), Err(2));
@@ -38,6 +46,10 @@ fn the_schema_comes_first() {
 fn the_concept_comes_before_the_state() {
     assert_eq!(select(&schema(), &BAD_PILE, &[], &mut []), Err(5));
     assert_eq!(select(&schema(), &BAD_STEPS, &BAD_STATE, &mut []), Err(6));
+    for links in [links_by_first, links_by_second] {
+        assert_eq!(links(&schema(), &BAD_PILE, &[], ATTRIBUTE), Err(5));
+        assert_eq!(links(&schema(), &BAD_STEPS, &BAD_STATE, ATTRIBUTE), Err(6));
+    }
 }
 
 #[test]
@@ -72,6 +84,15 @@ fn the_state_comes_before_the_lent_words() {
         counterexample(&schema(), &CLASS, &CLASS, &BAD_STATE),
         Err(10)
     );
+}
+
+#[test]
+fn the_state_comes_before_the_attribute() {
+    for links in [links_by_first, links_by_second] {
+        assert_eq!(links(&schema(), &CLASS, &[1], ATTRIBUTE), Err(7));
+        assert_eq!(links(&schema(), &CLASS, &BAD_STATE, ATTRIBUTE), Err(10));
+        assert_eq!(links(&schema(), &CLASS, &state(), ATTRIBUTE), Err(12));
+    }
 }
 
 #[test]

@@ -1,8 +1,9 @@
-//! Selection by sets against the formulas of table 1, asked object by object.
+//! Selection by sets against the formulas of table 1, asked object by object,
+//! and links against them, asked pair by pair.
 
 use super::prng::Prng;
 use super::random::{self, Alphabet};
-use crate::semantics::selected;
+use crate::semantics::{links_by_first, links_by_second, selected};
 use crate::syntax::{Concept, Direction, Path, State};
 
 const ALPHABET: Alphabet = Alphabet {
@@ -39,16 +40,19 @@ fn leads(state: &State, path: &Path, start: usize, end: usize) -> bool {
             .any(|middle| steps_to_end(middle) && leads(state, before, start, middle))
 }
 
+fn all_pairs(objects: usize) -> impl Iterator<Item = (usize, usize)> {
+    (0..objects * objects).map(move |pair| (pair / objects, pair % objects))
+}
+
 fn random_state(prng: &mut Prng) -> State {
     let objects = 2 + prng.below(4);
-    let pairs = || (0..objects * objects).map(|pair| (pair / objects, pair % objects));
     State {
         objects,
         classes: (0..ALPHABET.classes)
             .map(|_| (0..objects).filter(|_| prng.chance(50)).collect())
             .collect(),
         attributes: (0..ALPHABET.attributes)
-            .map(|_| pairs().filter(|_| prng.chance(30)).collect())
+            .map(|_| all_pairs(objects).filter(|_| prng.chance(30)).collect())
             .collect(),
         constants: vec![objects - 1, 0],
     }
@@ -68,4 +72,26 @@ fn sets_and_formulas_agree() {
     }
     assert!(inside >= 1000, "{inside} inside");
     assert!(outside >= 1000, "{outside} outside");
+}
+
+#[test]
+fn links_and_formulas_agree() {
+    let mut prng = Prng::new(32);
+    let (mut none, mut some) = (0, 0);
+    for _ in 0..2000 {
+        let state = random_state(&mut prng);
+        let concept = random::concept(&mut prng, ALPHABET, 4);
+        for (attribute, pairs) in state.attributes.iter().enumerate() {
+            let is_link = |pair: &_| {
+                let (first, _) = *pair;
+                pairs.contains(pair) && in_concept(&state, &concept, first)
+            };
+            let links = all_pairs(state.objects).filter(is_link).count();
+            assert_eq!(links_by_first(&state, &concept, attribute), links);
+            assert_eq!(links_by_second(&state, &concept, attribute), links);
+            *(if links == 0 { &mut none } else { &mut some }) += 1;
+        }
+    }
+    assert!(none >= 500, "{none} without links");
+    assert!(some >= 500, "{some} with links");
 }
