@@ -7,6 +7,8 @@ pub enum Entry {
     Select,
     Legal,
     Counterexample,
+    LinksByFirst,
+    LinksBySecond,
     Decide,
     Holds,
 }
@@ -18,24 +20,31 @@ pub enum Place {
     Query,
     View,
     State,
+    Attribute,
     Lent,
 }
 
 impl Entry {
-    pub const ALL: [Entry; 5] = [
+    pub const ALL: [Entry; 7] = [
         Entry::Select,
         Entry::Legal,
         Entry::Counterexample,
+        Entry::LinksByFirst,
+        Entry::LinksBySecond,
         Entry::Decide,
         Entry::Holds,
     ];
 
+    /// Those that count links, which take an attribute.
+    pub const LINKS: [Entry; 2] = [Entry::LinksByFirst, Entry::LinksBySecond];
+
     pub fn places(self) -> &'static [Place] {
-        use Place::{Lent, Query, Schema, State, View};
+        use Place::{Attribute, Lent, Query, Schema, State, View};
         match self {
             Entry::Select => &[Schema, Query, State, Lent],
             Entry::Legal => &[Schema, State],
             Entry::Counterexample => &[Schema, Query, View, State],
+            Entry::LinksByFirst | Entry::LinksBySecond => &[Schema, Query, State, Attribute],
             Entry::Decide => &[Schema, Query, View, Lent],
             Entry::Holds => &[Schema, Query, View],
         }
@@ -47,6 +56,7 @@ impl Entry {
             Entry::Select => objects,
             Entry::Decide => DECIDE_WORDS,
             Entry::Legal | Entry::Counterexample | Entry::Holds => 0,
+            Entry::LinksByFirst | Entry::LinksBySecond => 0,
         }
     }
 
@@ -55,6 +65,8 @@ impl Entry {
             Entry::Select => "select",
             Entry::Legal => "legal",
             Entry::Counterexample => "counterexample",
+            Entry::LinksByFirst => "links_by_first",
+            Entry::LinksBySecond => "links_by_second",
             Entry::Decide => "decide",
             Entry::Holds => "holds",
         }
@@ -62,13 +74,14 @@ impl Entry {
 }
 
 impl Place {
-    /// How the place's record is laid out; lent words have no layout.
+    /// How the place's record is laid out; an attribute and lent words have no
+    /// layout.
     pub fn layout(self) -> Option<&'static Layout> {
         match self {
             Place::Schema => Some(&SCHEMA),
             Place::Query | Place::View => Some(&CONCEPT),
             Place::State => Some(&STATE),
-            Place::Lent => None,
+            Place::Attribute | Place::Lent => None,
         }
     }
 
@@ -78,13 +91,15 @@ impl Place {
             Place::Query => "query",
             Place::View => "view",
             Place::State => "state",
+            Place::Attribute => "attribute",
             Place::Lent => "lent",
         }
     }
 }
 
-/// A call; what its entry does not take is not looked at. Select's concept
-/// stands in the place of the query, whose step limit it has.
+/// A call; what its entry does not take is not looked at. The concept of select
+/// and of the counts of links stands in the place of the query, whose step limit
+/// it has.
 #[derive(Clone, Debug)]
 pub struct Call {
     pub entry: Entry,
@@ -92,6 +107,8 @@ pub struct Call {
     pub query: Vec<u16>,
     pub view: Vec<u16>,
     pub state: Vec<u16>,
+    /// The number of an attribute, which need not be declared.
+    pub attribute: u16,
     /// How many words are lent.
     pub lent: usize,
 }
@@ -104,14 +121,14 @@ impl Call {
         records.map(<[u16]>::len).sum()
     }
 
-    /// The record at a place; lent words are none.
+    /// The record at a place; an attribute and lent words are none.
     pub fn record(&self, place: Place) -> Option<&[u16]> {
         match place {
             Place::Schema => Some(&self.schema),
             Place::Query => Some(&self.query),
             Place::View => Some(&self.view),
             Place::State => Some(&self.state),
-            Place::Lent => None,
+            Place::Attribute | Place::Lent => None,
         }
     }
 
@@ -121,7 +138,7 @@ impl Call {
             Place::Query => Some(&mut self.query),
             Place::View => Some(&mut self.view),
             Place::State => Some(&mut self.state),
-            Place::Lent => None,
+            Place::Attribute | Place::Lent => None,
         }
     }
 }

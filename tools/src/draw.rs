@@ -2,6 +2,7 @@
 
 use crate::prng::Prng;
 
+pub mod attribute;
 pub mod damage;
 pub mod state;
 pub mod triple;

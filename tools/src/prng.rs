@@ -12,6 +12,11 @@ impl Prng {
         Prng(self.next())
     }
 
+    /// As `split`, and these go on as if nothing had been split off.
+    pub fn aside(&self) -> Self {
+        Prng(self.0).split()
+    }
+
     fn next(&mut self) -> u64 {
         self.0 = self.0.wrapping_add(0x9e37_79b9_7f4a_7c15);
         let mut mixed = self.0;

@@ -13,6 +13,7 @@ impl Answerer for Proved {
             query,
             view,
             state,
+            attribute,
             ..
         } = call;
         let [out, second] = outs;
@@ -20,6 +21,8 @@ impl Answerer for Proved {
             Entry::Select => raw::select(schema, query, state, lent, out),
             Entry::Legal => raw::legal(schema, state, out),
             Entry::Counterexample => raw::counterexample(schema, query, view, state, out),
+            Entry::LinksByFirst => raw::links_by_first(schema, query, state, *attribute, out),
+            Entry::LinksBySecond => raw::links_by_second(schema, query, state, *attribute, out),
             Entry::Decide => raw::decide(schema, query, view, lent, out, second),
             Entry::Holds => raw::holds(schema, query, view, out),
         }

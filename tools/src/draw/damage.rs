@@ -1,15 +1,15 @@
 //! Damage to what a call passes. Much of it is refused, some is harmless, and
 //! which is for the reference to say.
 
+use super::attribute;
 use crate::call::{Call, Place};
 use crate::prng::Prng;
 use bikuvoa::layout::token::{self, EMPTY, EVERYTHING, REACHED};
-use bikuvoa::layout::{self, Layout, MAX_OBJECTS, QUERY_STEPS, VIEW_STEPS};
+use bikuvoa::layout::{self, Layout, Signature, MAX_OBJECTS, QUERY_STEPS, VIEW_STEPS};
 use bikuvoa::layout::{MAX_ATTRIBUTES, MAX_CLASSES, MAX_CONSTANTS};
 
 /// Damages what stands at the place.
 pub fn damage(prng: &mut Prng, call: &mut Call, place: Place) {
-    let lent = call.lent;
     match (call.record_mut(place), place.layout()) {
         (Some(words), Some(layout)) => match prng.below(12) {
             0..=2 => flip_word(prng, layout, words),
@@ -20,7 +20,18 @@ pub fn damage(prng: &mut Prng, call: &mut Call, place: Place) {
             9 => fill(prng, layout, words),
             _ => reach_limit(prng, place, words),
         },
-        _ => call.lent = fewer(prng, lent),
+        _ => damage_number(prng, call, place),
+    }
+}
+
+/// Damages what is no record: an attribute becomes one that is not declared, as
+/// far as the schema still says what is.
+fn damage_number(prng: &mut Prng, call: &mut Call, place: Place) {
+    if place == Place::Attribute {
+        let signature = Signature::of(&call.schema).unwrap_or_default();
+        call.attribute = attribute::undeclared(prng, signature);
+    } else {
+        call.lent = fewer(prng, call.lent);
     }
 }
 

@@ -2,7 +2,7 @@
 
 use super::repair::{model, Values};
 use super::triple::Triple;
-use super::{state, wide};
+use super::{attribute, state, wide};
 use crate::call::Entry;
 use crate::prng::Prng;
 use bikuvoa::layout;
@@ -42,6 +42,26 @@ fn states_are_accepted() {
         let answer = legal(&triple.schema_words(), &state.words());
         assert!(answer.is_ok(), "{answer:?} of {state:?}");
     }
+}
+
+#[test]
+fn attributes_are_declared_or_not() {
+    let mut prng = Prng::new(36);
+    let (mut lowest, mut highest) = (0, 0);
+    for _ in 0..DRAWS {
+        let signature = Triple::random(&mut prng).signature;
+        let declared = attribute::declared(&mut prng, signature);
+        assert_eq!(declared.is_none(), signature.attributes == 0);
+        assert!(declared.is_none_or(|number| number < signature.attributes));
+        let undeclared = attribute::undeclared(&mut prng, signature);
+        assert!(undeclared >= signature.attributes);
+        lowest += usize::from(undeclared == signature.attributes);
+        highest += usize::from(undeclared == u16::MAX);
+    }
+    assert!(
+        lowest * 4 > DRAWS && highest * 4 > DRAWS,
+        "{lowest}, {highest}"
+    );
 }
 
 #[test]

@@ -93,7 +93,7 @@ impl Triple {
         self.call(entry, Vec::new(), entry.least_lent(0))
     }
 
-    /// A call with the triple's records and a state's.
+    /// A call with the triple's records and a state's, and with attribute 0.
     pub fn call(&self, entry: Entry, state: Vec<u16>, lent: usize) -> Call {
         Call {
             entry,
@@ -101,6 +101,7 @@ impl Triple {
             query: layout::concept(&self.query),
             view: layout::concept(&self.view),
             state,
+            attribute: 0,
             lent,
         }
     }

@@ -10,6 +10,22 @@ pub fn person() -> Vec<u16> {
     concept(&[class(PERSON)])
 }
 
+pub fn everything() -> Vec<u16> {
+    concept(&[EVERYTHING])
+}
+
+/// Persons who wear a strap.
+pub fn wearers() -> Vec<u16> {
+    concept(&[
+        class(PERSON),
+        EMPTY,
+        class(STRAP),
+        forward(WEARS),
+        REACHED,
+        BOTH,
+    ])
+}
+
 /// A value of wears that is also worn by a strap.
 pub fn there_and_back() -> Vec<u16> {
     concept(&[
@@ -38,6 +54,20 @@ pub fn patients() -> Vec<u16> {
         class(DOCTOR),
         backward(SKILLED_IN),
         COMMON,
+        BOTH,
+    ])
+}
+
+/// Patients who consult a doctor skilled in a disease.
+pub fn treated() -> Vec<u16> {
+    concept(&[
+        class(PATIENT),
+        EMPTY,
+        class(DOCTOR),
+        forward(CONSULTS),
+        class(DISEASE),
+        forward(SKILLED_IN),
+        REACHED,
         BOTH,
     ])
 }

@@ -3,22 +3,25 @@
 
 use tools::call::{Call, Entry};
 use tools::draw::triple::Triple;
-use tools::draw::{state, wide};
+use tools::draw::{attribute, state, wide};
 use tools::prng::Prng;
 
 /// How many calls of each entry.
 pub const CALLS: usize = 200;
 const SEED: u64 = 1;
 
-/// The calls of an entry. All entries have the same triples and states.
+/// The calls of an entry. All entries have the same triples, states and
+/// attributes.
 pub fn calls(entry: Entry) -> Vec<Call> {
     let mut prng = Prng::new(SEED);
-    let calls = (0..CALLS).map(|place| call(&mut prng, entry, place));
+    let mut attributes = prng.aside();
+    let calls = (0..CALLS).map(|place| call(&mut prng, &mut attributes, entry, place));
     calls.collect()
 }
 
-/// A few of the states go up to the limits.
-fn call(prng: &mut Prng, entry: Entry, place: usize) -> Call {
+/// A few of the states go up to the limits. With this seed each triple declares
+/// an attribute, without which a count of links would be refused.
+fn call(prng: &mut Prng, attributes: &mut Prng, entry: Entry, place: usize) -> Call {
     let triple = triple(prng, place);
     let (schema, query) = triple.decoded();
     let state = match place % 10 {
@@ -26,7 +29,9 @@ fn call(prng: &mut Prng, entry: Entry, place: usize) -> Call {
         _ => state::state,
     };
     let state = state(prng, triple.signature, &schema, &query);
-    triple.call(entry, state.words(), entry.least_lent(state.objects))
+    let mut call = triple.call(entry, state.words(), entry.least_lent(state.objects));
+    call.attribute = attribute::declared(attributes, triple.signature).unwrap_or(0);
+    call
 }
 
 /// Half of the triples have a view that has to do with the query, as those that

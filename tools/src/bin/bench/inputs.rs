@@ -13,20 +13,45 @@ pub struct Input {
 pub const SMALL: &str = "small";
 pub const MIDDLE: &str = "middle";
 pub const LARGEST: &str = "largest";
+const EVERYTHING: [&str; 3] = [
+    "small, everything",
+    "middle, everything",
+    "largest, everything",
+];
 
 /// A small, a middle and a largest input for each entry.
 pub fn by_entry_and_size() -> Vec<Input> {
-    let mut inputs = Vec::new();
-    for entry in Entry::ALL {
-        for (size, call) in [
-            (SMALL, small(entry)),
-            (MIDDLE, middle(entry)),
-            (LARGEST, largest(entry)),
-        ] {
-            inputs.push(Input { size, call });
-        }
+    Entry::ALL.into_iter().flat_map(by_size).collect()
+}
+
+/// The counts of links, to be measured beside select with the same concept and
+/// state. It is for everything that select has least to do.
+pub fn beside_select() -> Vec<Input> {
+    let inputs = Entry::LINKS.into_iter().flat_map(|entry| {
+        let everything = EVERYTHING.into_iter().zip(by_size(entry));
+        let everything = everything.map(|(size, input)| Input {
+            size,
+            call: of_everything(input.call),
+        });
+        by_size(entry).into_iter().chain(everything)
+    });
+    inputs.collect()
+}
+
+fn of_everything(call: Call) -> Call {
+    Call {
+        query: concepts::everything(),
+        ..call
     }
-    inputs
+}
+
+fn by_size(entry: Entry) -> [Input; 3] {
+    let inputs = [
+        (SMALL, small(entry)),
+        (MIDDLE, middle(entry)),
+        (LARGEST, largest(entry)),
+    ];
+    inputs.map(|(size, call)| Input { size, call })
 }
 
 /// The calls of an entry on an input, both by the names that the tables have.
@@ -51,6 +76,7 @@ fn small(entry: Entry) -> Call {
     };
     let query = match entry {
         Entry::Select => concepts::there_and_back(),
+        Entry::LinksByFirst | Entry::LinksBySecond => concepts::wearers(),
         _ => concepts::person(),
     };
     Call {
@@ -59,18 +85,25 @@ fn small(entry: Entry) -> Call {
         query,
         view: concepts::there_and_back(),
         state: states::straps(),
+        attribute: schemas::WEARS,
         lent: entry.least_lent(3),
     }
 }
 
-/// The medical schema, query and view of the report, over 60 objects.
+/// The medical schema, query and view of the report, over 60 objects. The query
+/// selects none of them, so links are counted from other patients.
 fn middle(entry: Entry) -> Call {
+    let query = match entry {
+        Entry::LinksByFirst | Entry::LinksBySecond => concepts::treated(),
+        _ => concepts::patients(),
+    };
     Call {
         entry,
         schema: schemas::medical(),
-        query: concepts::patients(),
+        query,
         view: concepts::known_patients(),
         state: states::all_alike(60, schemas::MEDICAL),
+        attribute: schemas::CONSULTS,
         lent: entry.least_lent(60),
     }
 }
@@ -79,8 +112,8 @@ fn middle(entry: Entry) -> Call {
 /// the facts, axioms where every class and attribute is in use.
 fn largest(entry: Entry) -> Call {
     let (schema, state) = match entry {
-        Entry::Select | Entry::Counterexample => (schemas::dense(), states::dense()),
         Entry::Legal | Entry::Decide | Entry::Holds => (schemas::largest(), states::largest()),
+        _ => (schemas::dense(), states::dense()),
     };
     let (query, view) = match entry {
         Entry::Decide | Entry::Holds => (concepts::star(), concepts::six_needs()),
@@ -92,6 +125,7 @@ fn largest(entry: Entry) -> Call {
         query,
         view,
         state,
+        attribute: 0,
         lent: entry.least_lent(MAX_OBJECTS.into()),
     }
 }

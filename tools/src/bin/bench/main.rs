@@ -10,11 +10,13 @@ mod states;
 mod table;
 mod timing;
 
+use bikuvoa::layout::MAX_OBJECTS;
 use inputs::Input;
 use std::time::{Duration, Instant};
-use table::{Random, Row};
+use table::{Beside, Random, Row};
 use timing::{OF_MANY_INPUTS, OF_ONE_INPUT};
-use tools::call::{Call, Entry};
+use tools::call::{Answerer, Call, Entry};
+use tools::proved::Proved;
 
 /// How long calls are repeated at least.
 const SPELL: Duration = Duration::from_secs(2);
@@ -47,6 +49,10 @@ fn print_tables() -> Result<(), String> {
     let random = Entry::ALL.iter().map(|&entry| measure_random(entry));
     let random: Vec<Random> = random.collect::<Result<_, _>>()?;
     table::print_random(&random);
+    let beside = inputs::beside_select();
+    let beside = beside.iter().map(measure_beside);
+    let beside: Vec<Beside> = beside.collect::<Result<_, _>>()?;
+    table::print_beside_select(&beside);
     let (nested, flat) = (inputs::nested(), inputs::flat());
     let (nested, flat) = (timing::proved(&nested)?, timing::proved(&flat)?);
     let (nested, flat) = timing::in_turn(OF_ONE_INPUT, nested, flat);
@@ -79,5 +85,26 @@ fn measure_random(entry: Entry) -> Result<Random, String> {
         words: calls.iter().map(Call::words).collect(),
         proved,
         reference,
+    })
+}
+
+/// A count of links, and select with the same concept and state.
+fn measure_beside(input: &Input) -> Result<Beside, String> {
+    let call = &input.call;
+    let select = Call {
+        entry: Entry::Select,
+        lent: Entry::Select.least_lent(MAX_OBJECTS.into()),
+        ..call.clone()
+    };
+    let mut outs = [0; 2];
+    Proved.answer(call, &mut [], &mut outs);
+    let (counted, selected) = (timing::proved(call)?, timing::proved(&select)?);
+    let (counted, selected) = timing::in_turn(OF_ONE_INPUT, counted, selected);
+    Ok(Beside {
+        entry: call.entry,
+        size: input.size,
+        links: outs[0],
+        counted,
+        selected,
     })
 }

@@ -97,6 +97,35 @@ pub fn print_growth(rows: &[Row]) {
     }
 }
 
+/// A count of links with its result, its time and that of select in nanoseconds.
+pub struct Beside {
+    pub entry: Entry,
+    pub size: &'static str,
+    pub links: u64,
+    pub counted: f64,
+    pub selected: f64,
+}
+
+pub fn print_beside_select(rows: &[Beside]) {
+    println!();
+    println!(
+        "| beside select with the same concept and state | input | links | count | select \
+         | count / select |"
+    );
+    println!("|---|---|--:|--:|--:|--:|");
+    for row in rows {
+        println!(
+            "| {} | {} | {} | {} | {} | {:.2} |",
+            row.entry.name(),
+            row.size,
+            row.links,
+            time(row.counted),
+            time(row.selected),
+            row.counted / row.selected
+        );
+    }
+}
+
 pub fn print_nesting(nested: f64, flat: f64) {
     println!();
     println!("| select, largest, 64 tokens | 15 nested common objects | flat | nested / flat |");

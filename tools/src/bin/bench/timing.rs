@@ -76,12 +76,19 @@ pub fn reference(call: &Call) -> impl FnMut() + '_ {
             query,
             view,
             state,
+            attribute,
             ..
         } = black_box(call);
         match call.entry {
             Entry::Select => keep(entries::select(schema, query, state, &mut lent)),
             Entry::Legal => keep(entries::legal(schema, state)),
             Entry::Counterexample => keep(entries::counterexample(schema, query, view, state)),
+            Entry::LinksByFirst => {
+                keep(entries::links_by_first(schema, query, state, *attribute));
+            }
+            Entry::LinksBySecond => {
+                keep(entries::links_by_second(schema, query, state, *attribute));
+            }
             Entry::Decide => keep(entries::decide(schema, query, view, lent.len())),
             Entry::Holds => keep(entries::holds(schema, query, view)),
         }

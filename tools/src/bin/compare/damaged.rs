@@ -5,8 +5,8 @@ use bikuvoa::Refusal;
 use std::fmt;
 use tools::call::{Answerer, Call, Entry};
 use tools::draw::damage::damage;
-use tools::draw::state;
 use tools::draw::triple::Triple;
+use tools::draw::{attribute, state};
 use tools::prng::Prng;
 
 /// The highest number of a refusal.
@@ -53,11 +53,14 @@ pub fn run(tested: &dyn Answerer, prng: &mut Prng, count: usize) -> Result<Tally
     Ok(tally)
 }
 
-/// A call that is not refused, with no lent word to spare.
+/// A call that is not refused, unless it takes an attribute and none is
+/// declared, with no lent word to spare.
 fn sound(prng: &mut Prng, entry: Entry, triple: &Triple) -> Call {
     let (schema, query) = triple.decoded();
     let state = state::state(prng, triple.signature, &schema, &query);
-    triple.call(entry, state.words(), entry.least_lent(state.objects))
+    let mut call = triple.call(entry, state.words(), entry.least_lent(state.objects));
+    call.attribute = attribute::declared(prng, triple.signature).unwrap_or(0);
+    call
 }
 
 /// Damages one place, and now and then each later one as well, since the first

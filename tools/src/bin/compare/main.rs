@@ -24,7 +24,7 @@ use verify::{verify, Difference};
 const SEED: u64 = 1;
 const TRIPLES: usize = 60_000;
 const STATES: usize = 40_000;
-const DAMAGED: usize = 60_000;
+const DAMAGED: usize = 90_000;
 
 fn main() -> ExitCode {
     let seed = match std::env::args().nth(1).map(|argument| argument.parse()) {
@@ -64,12 +64,14 @@ fn compare(seed: u64) -> Result<(), Box<Difference>> {
     println!("{damaged}");
     println!(
         "compare: seed {seed}, {} triples (held {}, open {}), {} states (legal {}), \
-         {} damaged records: no difference",
+         {} link counts (not 0 {}), {} damaged records: no difference",
         triples.triples(),
         triples.held(),
         triples.open(),
         states.states,
         states.legal,
+        states.links,
+        states.linked,
         damaged.calls()
     );
     Ok(())

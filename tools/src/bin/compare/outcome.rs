@@ -62,6 +62,7 @@ pub fn expected(call: &Call) -> Expected {
         query,
         view,
         state,
+        attribute,
         ..
     } = call;
     let answer = match call.entry {
@@ -80,6 +81,8 @@ pub fn expected(call: &Call) -> Expected {
                 Counterexample::Yes(object) => u64::from(object) + 1,
             })
         }
+        Entry::LinksByFirst => entries::links_by_first(schema, query, state, *attribute),
+        Entry::LinksBySecond => entries::links_by_second(schema, query, state, *attribute),
         Entry::Decide => match entries::decide(schema, query, view, call.lent) {
             Ok(Verdict::Open) => return Expected::Open,
             Ok(Verdict::Held) => Ok(0),

@@ -2,14 +2,16 @@
 
 use crate::outcome::Outcome;
 use crate::verify::Difference;
+use tools::call::Place;
 
 pub fn report(difference: &Difference) {
     let Difference { call, fault, seen } = difference;
     println!("{}: {fault}", call.entry.name());
     for &place in call.entry.places() {
-        match call.record(place) {
-            Some(words) => println!("{}: {}", place.name(), spaced(words)),
-            None => println!("{}: {} words", place.name(), call.lent),
+        match (call.record(place), place) {
+            (Some(words), _) => println!("{}: {}", place.name(), spaced(words)),
+            (None, Place::Attribute) => println!("{}: {}", place.name(), call.attribute),
+            (None, _) => println!("{}: {} words", place.name(), call.lent),
         }
     }
     println!("returned {}, out values {:?}", seen.number, seen.outs);

@@ -5,6 +5,7 @@ use bikuvoa::layout::{self, Layout, Pair};
 use std::ops::Range;
 use std::time::{Duration, Instant};
 use tools::call::{Call, Place};
+use tools::word;
 
 /// How long smaller calls are looked for.
 const PATIENCE: Duration = Duration::from_secs(15);
@@ -35,6 +36,7 @@ impl Shrinker<'_> {
             helped |= match place {
                 Place::Schema | Place::State => self.drop_entries(place),
                 Place::Query | Place::View => self.replace_tokens(place),
+                Place::Attribute => self.lower_attribute(),
                 Place::Lent => self.lend_fewer(),
             };
             helped |= self.drop_words(place) | self.lower_words(place);
@@ -156,12 +158,22 @@ impl Shrinker<'_> {
         helped
     }
 
+    fn lower_attribute(&mut self) -> bool {
+        let attribute = self.call.attribute.into();
+        self.lower_number(attribute, |call, lower| call.attribute = word(lower))
+    }
+
     fn lend_fewer(&mut self) -> bool {
-        let lent = self.call.lent;
-        [0, lent / 2, lent.saturating_sub(1)].iter().any(|&fewer| {
+        self.lower_number(self.call.lent, |call, fewer| call.lent = fewer)
+    }
+
+    /// Puts 0, half or one less for a number of the call.
+    fn lower_number(&mut self, number: usize, put: fn(&mut Call, usize)) -> bool {
+        let lowered = [0, number / 2, number.saturating_sub(1)];
+        lowered.iter().any(|&lower| {
             let mut call = self.call.clone();
-            call.lent = fewer;
-            fewer < lent && self.take_call(call)
+            put(&mut call, lower);
+            lower < number && self.take_call(call)
         })
     }
 }

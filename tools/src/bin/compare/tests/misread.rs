@@ -78,6 +78,11 @@ fn no_domains_and_ranges() {
 }
 
 #[test]
+fn the_first_attribute_only() {
+    state_difference(&Misread(|call| call.attribute = 0));
+}
+
+#[test]
 fn backward_steps_taken_forward() {
     assert_found(|call| {
         alter_tokens(call, |token| match token {

@@ -25,6 +25,12 @@ fn legal_and_illegal_states_are_both_common() {
 }
 
 #[test]
+fn counts_of_links_are_often_0_and_often_not() {
+    let tally = states::run(&Proved, &mut Prng::new(SEED), 2_000).expect("no difference");
+    assert!(is_balanced(tally.linked, tally.links), "{tally}");
+}
+
+#[test]
 fn every_refusal_comes_up() {
     let tally = damaged::run(&Proved, &mut Prng::new(SEED), 4_000).expect("no difference");
     assert!(tally.numbers.iter().all(|&calls| calls >= 10), "{tally}");

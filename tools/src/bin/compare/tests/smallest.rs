@@ -1,11 +1,13 @@
 //! What is left of a difference once it is made small.
 
-use super::spoilt::{Spoil, Spoilt};
+use super::spoilt::{Answer, Spoilt};
 use super::{damage_difference, state_difference, triple_difference};
 use crate::shrink::shrink;
 use crate::verify::{verify, Difference};
 use bikuvoa::layout::{self, Layout, Signature, CONCEPT, SCHEMA, STATE};
 use tools::call::{Call, Entry};
+
+type Spoil = fn(&mut Answer);
 
 fn smallest(spoil: Spoil, found: Difference) -> Call {
     shrink(found.call, &|call| verify(&Spoilt(spoil), call).is_err())
@@ -51,6 +53,38 @@ fn of_a_wrong_judgement() {
     // One axiom and at most the three facts that break it.
     assert_eq!(entries(&SCHEMA, &call.schema), 1);
     assert!(entries(&STATE, &call.state) <= 3, "{:?}", call.state);
+}
+
+#[test]
+fn of_a_wrong_count() {
+    let all_pairs: Spoil = |answer| {
+        if answer.is_of(Entry::LinksBySecond) {
+            answer.outs[0] = answer.pairs().len() as u64;
+        }
+    };
+    let found = state_difference(&Spoilt(all_pairs));
+    let call = smallest(all_pairs, *found);
+    // No axiom, a concept of at most one step, and one pair beside the names.
+    let signature = Signature::of(&call.schema).expect("a schema");
+    assert_eq!(entries(&SCHEMA, &call.schema), 0);
+    assert!(entries(&CONCEPT, &call.query) <= 4, "{:?}", call.query);
+    let names = usize::from(signature.constants);
+    assert_eq!(entries(&STATE, &call.state), names + 1);
+}
+
+#[test]
+fn of_a_wrong_attribute() {
+    let never_refused: Spoil = |answer| {
+        if answer.number == 12 {
+            answer.number = 0;
+        }
+    };
+    let found = state_difference(&Spoilt(never_refused));
+    assert!(found.call.attribute > 0);
+    let call = smallest(never_refused, *found);
+    // No attribute at all is declared.
+    let signature = Signature::of(&call.schema).expect("a schema");
+    assert_eq!((signature.attributes, call.attribute), (0, 0));
 }
 
 #[test]

@@ -1,12 +1,14 @@
 //! Wrong answers, each the proved code's with one thing spoilt.
 
 use super::{damage_difference, state_difference, triple_difference};
-use bikuvoa::layout::{self, fact, Pair, DECIDE_WORDS, STATE};
+use bikuvoa::layout::{self, fact, Pair, Signature, DECIDE_WORDS, MAX_OBJECTS, STATE};
+use std::collections::BTreeSet;
 use tools::call::{Answerer, Call, Entry};
 use tools::proved::Proved;
 
 /// What the proved code left of a call, to be spoilt.
 pub struct Answer<'a> {
+    pub call: &'a Call,
     pub entry: Entry,
     pub objects: usize,
     /// The lent words as they were before.
@@ -19,15 +21,14 @@ pub struct Answer<'a> {
 /// The last word that is lent for a decision.
 const LAST_WORD: usize = DECIDE_WORDS - 1;
 
-pub type Spoil = fn(&mut Answer);
+pub struct Spoilt<F: Fn(&mut Answer)>(pub F);
 
-pub struct Spoilt(pub Spoil);
-
-impl Answerer for Spoilt {
+impl<F: Fn(&mut Answer)> Answerer for Spoilt<F> {
     fn answer(&self, call: &Call, lent: &mut [u16], outs: &mut [u64; 2]) -> u16 {
         let before = lent.to_vec();
         let number = Proved.answer(call, lent, outs);
         let mut answer = Answer {
+            call,
             entry: call.entry,
             objects: layout::objects(&call.state).unwrap_or(0).into(),
             before,
@@ -54,6 +55,30 @@ impl Answer<'_> {
     /// How many words the written state has.
     fn written(&self) -> usize {
         STATE.length(self.lent).expect("a written state")
+    }
+
+    /// How many attributes the call's schema declares.
+    fn attributes(&self) -> u16 {
+        let signature = Signature::of(&self.call.schema);
+        signature.expect("a schema").attributes
+    }
+
+    /// The pairs of the call's attribute, each a first and a second object.
+    pub fn pairs(&self) -> Vec<(usize, usize)> {
+        let facts = STATE.entries(&self.call.state).expect("a state");
+        let kind = fact::ATTRIBUTE_KINDS + self.call.attribute;
+        let pairs = facts.filter(|&pair| fact::kind(pair) == kind);
+        let pairs = pairs.map(|pair| (fact::object(pair).into(), pair.1.into()));
+        pairs.collect()
+    }
+
+    /// Which objects the call's concept selects.
+    fn marks(&self) -> Vec<bool> {
+        let mut marks = vec![0; MAX_OBJECTS.into()];
+        let mut select = self.call.clone();
+        select.entry = Entry::Select;
+        Proved.answer(&select, &mut marks, &mut [0; 2]);
+        marks.iter().map(|&mark| mark == 1).collect()
     }
 }
 
@@ -235,6 +260,91 @@ fn not_the_lowest_object() {
             answer.outs[0] += 1;
         }
     }));
+}
+
+/// Either of the two entries must be found if it counts something else.
+fn assert_miscount_found(count: fn(&Answer) -> usize) {
+    for entry in Entry::LINKS {
+        let found = state_difference(&Spoilt(|answer| {
+            if answer.is_of(entry) {
+                answer.outs[0] = count(answer) as u64;
+            }
+        }));
+        assert!(found.fault.starts_with("out values "), "{}", found.fault);
+    }
+}
+
+#[test]
+fn pairs_whatever_their_first_object() {
+    assert_miscount_found(|answer| answer.pairs().len());
+}
+
+#[test]
+fn selected_objects_for_links() {
+    assert_miscount_found(|answer| answer.marks().iter().filter(|&&mark| mark).count());
+}
+
+#[test]
+fn different_values_for_links() {
+    assert_miscount_found(|answer| {
+        let (marks, pairs) = (answer.marks(), answer.pairs());
+        let links = pairs.iter().filter(|&&(first, _)| marks[first]);
+        let seconds: BTreeSet<_> = links.map(|(_, second)| second).collect();
+        seconds.len()
+    });
+}
+
+#[test]
+fn pairs_whose_second_object_is_selected() {
+    assert_miscount_found(|answer| {
+        let (marks, pairs) = (answer.marks(), answer.pairs());
+        pairs.iter().filter(|&&(_, second)| marks[second]).count()
+    });
+}
+
+#[test]
+fn the_attribute_refused_before_the_state() {
+    for entry in Entry::LINKS {
+        let found = damage_difference(&Spoilt(|answer| {
+            let is_of_state = answer.entry == entry && (7..=10).contains(&answer.number);
+            if is_of_state && answer.call.attribute >= answer.attributes() {
+                answer.number = 12;
+            }
+        }));
+        assert!(found.fault.starts_with("returned 12 "), "{}", found.fault);
+    }
+}
+
+/// Takes the lowest number that is not declared as that of an attribute without
+/// pairs.
+#[test]
+fn one_attribute_more() {
+    for entry in Entry::LINKS {
+        let wrong = Spoilt(|answer| {
+            let is_refused = answer.entry == entry && answer.number == 12;
+            if is_refused && answer.call.attribute == answer.attributes() {
+                answer.number = 0;
+                answer.outs[0] = 0;
+            }
+        });
+        for found in [state_difference(&wrong), damage_difference(&wrong)] {
+            assert_eq!(found.fault, "returned 0 and not 12");
+        }
+    }
+}
+
+#[test]
+fn a_count_of_a_refused_call() {
+    for entry in Entry::LINKS {
+        let wrong = Spoilt(|answer| {
+            if answer.entry == entry && answer.number == 12 {
+                answer.outs[0] = 0;
+            }
+        });
+        for found in [state_difference(&wrong), damage_difference(&wrong)] {
+            assert!(found.fault.starts_with("out values "), "{}", found.fault);
+        }
+    }
 }
 
 #[test]
