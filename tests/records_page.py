@@ -15,8 +15,9 @@ from triples import CLUB, RECORDED, ROOT, ROWERS
 PAGE = (ROOT / "docs" / "RECORDS.md").read_text()
 README = (ROOT / "README.md").read_text()
 HEADER = (ROOT / "include" / "bikuvoa.h").read_text()
-SOURCE = {name: (ROOT / "crates" / path).read_text() for name, path in {
-    "schema": "records/src/schema.rt", "concept": "records/src/concept.rt", "state": "records/src/state.rt",
+SOURCE = {name: "".join((ROOT / "crates" / path).read_text() for path in paths.split()) for name, paths in {
+    "schema": "records/src/schema.rt", "state": "records/src/state.rt",
+    "concept": "records/src/token.rt records/src/sorts.rt records/src/concept.rt",
     "select": "judge/src/select.rt", "legal": "judge/src/legal.rt", "counterexample": "judge/src/counterexample.rt",
     "links": "judge/src/links.rt", "decide": "decide/src/lib.rt", "holds": "decide/src/holds.rt"}.items()}
 held, faults = [], []

@@ -2,9 +2,9 @@
 use crate::items::concept;
 use crate::words::Kind;
 use crate::words::Words;
-use records::concept::MAX_TOKENS;
-use records::concept::tokens;
 use records::layout::word;
+use records::token::MAX_TOKENS;
+use records::token::tokens;
 ghost use Rattle.records.specs.Layout.{querySteps};
 ghost use Rattle.records.specs.SchemaRecord.{signatureOf};
 ghost use Rattle.records.specs.SchemaRefusal.{AcceptedSchema};

@@ -1,8 +1,8 @@
 // A list of words with room for the facts of a query, and the three kinds of fact that it may hold. A fact of another kind
 // leaves it as it was.
 use primary::rules::PART;
-use records::concept::MAX_TOKENS;
 use records::layout::narrow;
+use records::token::MAX_TOKENS;
 ghost use mathlib.Core.Path.{_≡_};
 ghost use Prim.Native.Nat.{_<_, _^_};
 ghost use Rattle.records.specs.Concept.{forward, directionOf};

@@ -5,8 +5,8 @@ use mathlib.Core.Bool.{So}
 use mathlib.Core.List.{List}
 use mathlib.Core.Path.{_≡_, subst}
 use borrow.Author.Tests.{ltb-true}
-use Rattle.records.specs.declared.concept.Token.{Token}
-use Rattle.records.specs.declared.concept.Token.the-variants.{Class, Constant, Forward, Backward}
+use Rattle.records.specs.declared.token.Token.{Token}
+use Rattle.records.specs.declared.token.Token.the-variants.{Class, Constant, Forward, Backward}
 use Rattle.records.specs.declared.schema.Signature.{Signature}
 use Rattle.records.specs.Concept.{Direction, forward, backward, Concept, class, everything, constant, both, reached, common, Path, empty, step}
 use Rattle.records.specs.Layout.{conceptLayout, rightAt}

@@ -4,7 +4,7 @@ use Prim.Native.Nat.{ℕ, suc, _+_}
 use native.Mathlib.Omega.{arith}
 use mathlib.Core.List.{List}
 use mathlib.Core.Path.{_≡_, sym, ap, ap₂, _∙_}
-use Rattle.records.specs.declared.concept.Token.the-variants.{Class, Everything, Constant, Both, Empty, Reached, Common}
+use Rattle.records.specs.declared.token.Token.the-variants.{Class, Everything, Constant, Both, Empty, Reached, Common}
 use Rattle.records.specs.Concept.{Direction, Concept, class, everything, constant, both, reached, common, Path}
 use Rattle.records.specs.Helpers.Reading.{startOf, conceptAt, pathAt, stepNumber}
 use Rattle.records.proofs.ReadingLaws.{Reads, ReadsStep, ReadsPath, number-concept, number-path}

@@ -3,8 +3,6 @@
 // which words a file's bytes give is proved; what is printed is held to the stored runs of bikuvoa and bikuvoa_open.
 use decide::DecideAnswer;
 use decide::decide;
-use records::concept::CONCEPT_SIZES;
-use records::concept::MAX_TOKENS;
 use records::layout::left;
 use records::layout::right;
 use records::schema::MAX_AXIOMS;
@@ -12,6 +10,8 @@ use records::schema::SCHEMA_SIZES;
 use records::state::STATE_WORDS;
 use records::state::facts;
 use records::state::state_layout;
+use records::token::CONCEPT_SIZES;
+use records::token::MAX_TOKENS;
 
 // The most words of an accepted record. A longer file gives no words.
 const SCHEMA_WORDS: usize = SCHEMA_SIZES + 2 * MAX_AXIOMS;

@@ -13,14 +13,14 @@ use denote.Enum.Declared.{tagOf}
 use mir.Syntax.{w16}
 use mir.Val.{Fits}
 use Rattle.records.specs.declared.schema.Signature.{Signature}
-use Rattle.records.specs.declared.concept.Token.{Token}
-use Rattle.records.specs.declared.concept.Token.the-variants.{Class, Everything, Constant, Both, Empty, Forward, Backward, Reached, Common}
+use Rattle.records.specs.declared.token.Token.{Token}
+use Rattle.records.specs.declared.token.Token.the-variants.{Class, Everything, Constant, Both, Empty, Forward, Backward, Reached, Common}
 use Rattle.records.specs.Concept.{directionOf}
 use Rattle.records.specs.Layout.{conceptLayout, entries, leftAt, rightAt, factKinds}
 use Rattle.records.specs.ConceptRecord.{tokenOf, tokenAt}
 use Rattle.records.specs.ConceptRefusal.{isStep}
 use Rattle.records.specs.Helpers.Reading.{stepToken}
-use Rattle.records.proofs.concept.Token.{the-type}
+use Rattle.records.proofs.token.Token.{the-type}
 use Rattle.records.proofs.AcceptedLaws.{token-suits}
 use Rattle.evaluate.specs.Evaluable.{Evaluable}
 use Rattle.evaluate.specs.Steps.{along, stepOf}

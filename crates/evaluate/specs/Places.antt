@@ -7,7 +7,7 @@ use mathlib.Core.Logic.{_⊎_}
 use mathlib.Core.Path.{_≡_}
 use lib.Dec.{ltb}
 use lib.ListN.{length}
-use Rattle.records.specs.declared.concept.Token.the-variants.{Common}
+use Rattle.records.specs.declared.token.Token.the-variants.{Common}
 use Rattle.records.specs.declared.schema.Signature.{Signature}
 use Rattle.records.specs.Concept.{Concept}
 use Rattle.records.specs.Executable.{isIn}

@@ -2,13 +2,13 @@
 use crate::layout::BLOCK_BITS;
 use crate::layout::BLOCK_WORDS;
 use crate::layout::SET_WORDS;
-use records::concept::MAX_TOKENS;
-use records::concept::Token;
-use records::concept::token_at;
-use records::concept::tokens;
 use records::schema::Signature;
 use records::state::MAX_OBJECTS;
 use records::state::objects;
+use records::token::MAX_TOKENS;
+use records::token::Token;
+use records::token::token_at;
+use records::token::tokens;
 ghost use mathlib.Core.Path.{_≡_};
 ghost use mathlib.Core.Bool.{false};
 ghost use Prim.Native.Nat.{_*_, _≤_};

@@ -1,12 +1,12 @@
 // The step of a token, and the pair that a fact is.
-use records::concept::Token;
-use records::concept::token_at;
 use records::layout::word;
 use records::state::ATTRIBUTE_KINDS;
 use records::state::FACT_KINDS;
 use records::state::OBJECT_PART;
 use records::state::facts;
 use records::state::state_layout;
+use records::token::Token;
+use records::token::token_at;
 ghost use Prim.Native.Nat.{_+_, _<_, _^_};
 ghost use mathlib.Core.Path.{_≡_};
 ghost use Rattle.records.specs.ConceptRecord.{tokenAt};

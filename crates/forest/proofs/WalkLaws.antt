@@ -7,8 +7,8 @@ use mathlib.Core.Path.{_≡_, refl, sym, ap, ap₂, subst, _∙_}
 use lib.ListN.{length}
 use types.Run.{OneOf}
 use denote.Enum.Declared.{tagOf}
-use Rattle.records.proofs.concept.Token.{the-type}
-use Rattle.records.specs.declared.concept.Token.the-variants.{Both, Empty, Reached, Common}
+use Rattle.records.proofs.token.Token.{the-type}
+use Rattle.records.specs.declared.token.Token.the-variants.{Both, Empty, Reached, Common}
 use Rattle.records.specs.Concept.{Concept, class, everything, constant, both, reached, common, Path, empty, step}
 use Rattle.records.specs.Layout.{viewSteps, maxAttributes, maxObjects}
 use Rattle.records.specs.Schema.{Schema}

@@ -13,9 +13,9 @@ use borrow.Author.Tests.{lt-ltb, le-ltb, eq-eqb, ne-eqb}
 use lib.Dec.{eqb, ltb}
 use lib.ListN.{length, getD}
 use mir.Val.{boolByte}
-use Rattle.records.specs.declared.concept.Token.{Token}
-use Rattle.records.specs.declared.concept.Token.the-variants.{Class, Everything, Constant, Both, Empty, Forward, Backward, Reached, Common}
-use Rattle.records.specs.declared.concept.Sorts.{Sorts}
+use Rattle.records.specs.declared.token.Token.{Token}
+use Rattle.records.specs.declared.token.Token.the-variants.{Class, Everything, Constant, Both, Empty, Forward, Backward, Reached, Common}
+use Rattle.records.specs.declared.sorts.Sorts.{Sorts}
 use Rattle.records.specs.Concept.{class, everything, constant, empty}
 use Rattle.records.specs.ConceptRecord.{Item, Pile, after, pileAfter, tokenAt}
 use Rattle.records.specs.declared.schema.Signature.{Signature}

@@ -8,8 +8,8 @@ use mathlib.Core.Option.{none, some}
 use mathlib.Core.Path.{_≡_, refl, sym, ap, ap₂, _∙_}
 use lib.ListN.{length, drop, length-append}
 use lib.Seq.{drop-append-add}
-use Rattle.records.specs.declared.concept.Token.{Token}
-use Rattle.records.specs.declared.concept.Token.the-variants.{Class, Everything, Constant, Both, Empty, Forward, Backward, Reached, Common}
+use Rattle.records.specs.declared.token.Token.{Token}
+use Rattle.records.specs.declared.token.Token.the-variants.{Class, Everything, Constant, Both, Empty, Forward, Backward, Reached, Common}
 use Rattle.records.specs.Concept.{Direction, forward, backward, Concept, class, everything, constant, both, reached, common, Path, empty, step}
 use Rattle.records.specs.ConceptRecord.{Item, concept, path, Pile, takeConcept, takePath, tokenAt, push, after, pileAfter}
 use Rattle.records.specs.Helpers.Reading.{takes, startOf, stepToken}

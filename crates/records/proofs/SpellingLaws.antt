@@ -5,8 +5,8 @@ use native.Mathlib.Omega.{arith}
 use mathlib.Core.Bool.{true, false}
 use mathlib.Core.List.{List, [], _∷_}
 use mathlib.Core.Path.{_≡_, refl, sym, ap, subst, _∙_}
-use Rattle.records.specs.declared.concept.Token.{Token}
-use Rattle.records.specs.declared.concept.Token.the-variants.{Class, Everything, Constant, Both, Empty, Reached, Common}
+use Rattle.records.specs.declared.token.Token.{Token}
+use Rattle.records.specs.declared.token.Token.the-variants.{Class, Everything, Constant, Both, Empty, Reached, Common}
 use Rattle.records.specs.Concept.{Direction, forward, backward, Concept, class, everything, constant, both, reached, common, Path, empty, step}
 use Rattle.records.specs.ConceptRecord.{Item, concept, path, tokenAt}
 use Rattle.records.specs.ConceptRefusal.{isStep, stepAt}

@@ -4,5 +4,7 @@ pub mod concept;
 pub mod layout;
 pub mod reading;
 pub mod schema;
+mod sorts;
 pub mod state;
+pub mod token;
 pub mod writing;

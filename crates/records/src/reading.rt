@@ -1,7 +1,7 @@
 // A concept's tokens, read from the right: where an item starts, and the number of a step.
-use crate::concept::Token;
-use crate::concept::is_step;
-use crate::concept::token_at;
+use crate::token::Token;
+use crate::token::is_step;
+use crate::token::token_at;
 ghost use mathlib.Core.Path.{_≡_};
 ghost use Prim.Native.Nat.{_<_, _^_};
 ghost use Rattle.records.specs.Helpers.Reading.{takes as takesOf, startOf, stepNumber};

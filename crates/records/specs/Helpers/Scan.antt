@@ -5,9 +5,9 @@ use mathlib.Core.List.{List}
 use mathlib.Core.Bool.{Bool, true, false, cond, not, _&&_, _||_}
 use lib.Dec.{eqb, ltb, leb}
 use lib.ListN.{getD}
-use Rattle.records.specs.declared.concept.Token.{Token}
-use Rattle.records.specs.declared.concept.Token.the-variants.{Class, Everything, Constant, Both, Empty, Forward, Backward, Reached, Common}
-use Rattle.records.specs.declared.concept.Sorts.{Sorts}
+use Rattle.records.specs.declared.token.Token.{Token}
+use Rattle.records.specs.declared.token.Token.the-variants.{Class, Everything, Constant, Both, Empty, Forward, Backward, Reached, Common}
+use Rattle.records.specs.declared.sorts.Sorts.{Sorts}
 use Rattle.records.specs.Finite.{any}
 use Rattle.records.specs.State.{repeats}
 use Rattle.records.specs.Layout.{constantKinds, factKinds, maxConstants}

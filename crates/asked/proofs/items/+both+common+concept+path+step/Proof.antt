@@ -30,7 +30,7 @@ use Rattle.asked.proofs.items.+both+common+concept+path+step.Lts-step a
 use Rattle.asked.proofs.words.add_edge.Reads as add-edge-reads
 use Rattle.asked.proofs.words.add_equation.Reads as add-equation-reads
 use Rattle.asked.proofs.words.add_member.Reads as add-member-reads
-use Rattle.records.proofs.concept.token_at.Reads as token-at-reads
+use Rattle.records.proofs.token.token_at.Reads as token-at-reads
 use Rattle.asked.proofs.items.end_of.Reads as end-of-reads
 use Rattle.records.proofs.reading.start_of.Reads as start-of-reads
 use Rattle.records.proofs.reading.step_number.Reads as step-number-reads

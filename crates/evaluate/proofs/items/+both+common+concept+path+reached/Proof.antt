@@ -34,8 +34,8 @@ use Rattle.evaluate.proofs.sets.everything.Reads as everything-reads
 use Rattle.evaluate.proofs.sets.kind_set.Reads as kind-set-reads
 use Rattle.evaluate.proofs.sets.put.Reads as put-reads
 use Rattle.evaluate.proofs.sets.shared_row.Reads as shared-row-reads
-use Rattle.records.proofs.concept.is_step.Reads as is-step-reads
-use Rattle.records.proofs.concept.token_at.Reads as token-at-reads
+use Rattle.records.proofs.token.is_step.Reads as is-step-reads
+use Rattle.records.proofs.token.token_at.Reads as token-at-reads
 use Rattle.records.proofs.state.objects.Reads as objects-reads
 use Rattle.evaluate.proofs.items.+both+common+concept+path+reached.{statement}
 use Rattle.evaluate.proofs.items.+both+common+concept+path+reached.Tie.{close}

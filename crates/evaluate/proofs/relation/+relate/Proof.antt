@@ -17,8 +17,8 @@ use Rattle.evaluate.proofs.relation.+relate.Lts-relate as relate-lts
 use Rattle.evaluate.proofs.relation.advance.Reads as advance-reads
 use Rattle.evaluate.proofs.relation.identity.Reads as identity-reads
 use Rattle.evaluate.proofs.steps.step_at.Reads as step-at-reads
-use Rattle.records.proofs.concept.is_step.Reads as is-step-reads
-use Rattle.records.proofs.concept.token_at.Reads as token-at-reads
+use Rattle.records.proofs.token.is_step.Reads as is-step-reads
+use Rattle.records.proofs.token.token_at.Reads as token-at-reads
 use Rattle.records.proofs.reading.start_of.Reads as start-of-reads
 use Rattle.records.proofs.state.objects.Reads as objects-reads
 use Rattle.evaluate.proofs.relation.+relate.{statement}

@@ -7,7 +7,7 @@ use mathlib.Core.Path.{sym, _∙_}
 use borrow.Author.Needs.{needs}
 use borrow.Fn.Kinds.{In}
 use borrow.Fn.PlainCycle.{Measures, is, falls, and}
-use Rattle.records.proofs.concept.token_at.Reads as token-at-reads
+use Rattle.records.proofs.token.token_at.Reads as token-at-reads
 use Rattle.records.proofs.PileLaws.{start-le}
 use Rattle.records.proofs.reading.start_of.Reads as start-of-reads
 use Rattle.records.proofs.ReadingLaws.{concept-not-path, path-not-concept}

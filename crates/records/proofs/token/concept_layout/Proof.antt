@@ -2,8 +2,8 @@
 use Rattle.records.specs.Layout.{conceptLayout}
 use borrow.Author.Needs.{needs}
 use mathlib.Core.Path.{refl}
-use Rattle.records.proofs.concept.concept_layout.Statement.{statement}
-use Rattle.records.proofs.concept.concept_layout.Tie as tie
+use Rattle.records.proofs.token.concept_layout.Statement.{statement}
+use Rattle.records.proofs.token.concept_layout.Tie as tie
 
 returns : tie.Need-returns
 unfolding conceptLayout

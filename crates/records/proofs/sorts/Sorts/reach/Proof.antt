@@ -5,8 +5,8 @@ use borrow.Author.Tests.{eqb-true, not-false}
 use lib.Dec.{ltb}
 use mathlib.Core.Path.{_≡_}
 use native.Mathlib.Omega.{arith}
-use Rattle.records.proofs.concept.Sorts.reach.Statement.{statement}
-use Rattle.records.proofs.concept.Sorts.reach.Tie as tie
+use Rattle.records.proofs.sorts.Sorts.reach.Statement.{statement}
+use Rattle.records.proofs.sorts.Sorts.reach.Tie as tie
 
 returns : tie.Need-returns
 returns c = rw (c .if1 .taken)

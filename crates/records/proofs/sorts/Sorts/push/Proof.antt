@@ -1,8 +1,8 @@
 -- A case for each sort of token.
 use borrow.Author.Needs.{needs}
 use borrow.Author.Tests.{not-false, not-true}
-use Rattle.records.proofs.concept.Sorts.push.Statement.{statement}
-use Rattle.records.proofs.concept.Sorts.push.Tie as tie
+use Rattle.records.proofs.sorts.Sorts.push.Statement.{statement}
+use Rattle.records.proofs.sorts.Sorts.push.Tie as tie
 
 returns : tie.Need-returns
 returns c = rw (not-true (c .before .before .args .self .ok) (c .if1 .taken))

@@ -1,6 +1,6 @@
 -- The entries of the record.
-use Rattle.records.proofs.concept.tokens.Statement.{statement}
-use Rattle.records.proofs.concept.tokens.Tie as tie
+use Rattle.records.proofs.token.tokens.Statement.{statement}
+use Rattle.records.proofs.token.tokens.Tie as tie
 
 concept-layout-requires : tie.Need-concept-layout-requires
 concept-layout-requires c κs = tt

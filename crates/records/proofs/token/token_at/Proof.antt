@@ -1,8 +1,8 @@
 -- The token of the two words at the place.
 use Rattle.records.specs.ConceptRecord.{tokenAt}
 use borrow.Author.Needs.{needs}
-use Rattle.records.proofs.concept.token_at.Statement.{statement}
-use Rattle.records.proofs.concept.token_at.Tie as tie
+use Rattle.records.proofs.token.token_at.Statement.{statement}
+use Rattle.records.proofs.token.token_at.Tie as tie
 
 concept-layout-requires : tie.Need-concept-layout-requires
 concept-layout-requires c κs = tt

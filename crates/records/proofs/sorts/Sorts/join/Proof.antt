@@ -5,8 +5,8 @@ use borrow.Author.Needs.{needs}
 use borrow.Author.Tests.{ltb-false}
 use lib.Dec.{ltb}
 use native.Mathlib.Omega.{arith}
-use Rattle.records.proofs.concept.Sorts.join.Statement.{statement}
-use Rattle.records.proofs.concept.Sorts.join.Tie as tie
+use Rattle.records.proofs.sorts.Sorts.join.Statement.{statement}
+use Rattle.records.proofs.sorts.Sorts.join.Tie as tie
 
 returns : tie.Need-returns
 returns c = rw (c .if1 .taken)

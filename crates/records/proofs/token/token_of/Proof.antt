@@ -1,8 +1,8 @@
 -- Each sort is tested for in turn.
 use Rattle.records.specs.ConceptRecord.{tokenOf}
 use borrow.Author.Tests.{ne-eqb}
-use Rattle.records.proofs.concept.token_of.Statement.{statement}
-use Rattle.records.proofs.concept.token_of.Tie as tie
+use Rattle.records.proofs.token.token_of.Statement.{statement}
+use Rattle.records.proofs.token.token_of.Tie as tie
 
 returns : tie.Need-returns
 unfolding tokenOf
