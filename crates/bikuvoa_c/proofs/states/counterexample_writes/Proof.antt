@@ -1,8 +1,8 @@
 -- One more than the object fits, as the answer says (CounterexampleFits).
 use borrow.Author.Needs.{needs}
 use native.Mathlib.Omega.{arith}
-use Rattle.bikuvoa_c.proofs.counterexample_writes.Statement.{statement}
-use Rattle.bikuvoa_c.proofs.counterexample_writes.Tie as tie
+use Rattle.bikuvoa_c.proofs.states.counterexample_writes.Statement.{statement}
+use Rattle.bikuvoa_c.proofs.states.counterexample_writes.Tie as tie
 
 enum-told : tie.Need-enum-told
 enum-told c = search needs

@@ -1,8 +1,8 @@
 -- One more than the place fits, as the answer says (LegalFits).
 use borrow.Author.Needs.{needs}
 use native.Mathlib.Omega.{arith}
-use Rattle.bikuvoa_c.proofs.legal_writes.Statement.{statement}
-use Rattle.bikuvoa_c.proofs.legal_writes.Tie as tie
+use Rattle.bikuvoa_c.proofs.states.legal_writes.Statement.{statement}
+use Rattle.bikuvoa_c.proofs.states.legal_writes.Tie as tie
 
 enum-told : tie.Need-enum-told
 enum-told c = search needs

@@ -3,8 +3,8 @@ use mathlib.Core.Path.{_∙_, sym, ap, subst}
 use Rattle.judge.specs.declared.legal.LegalAnswer.{LegalAnswer}
 use Rattle.bikuvoa_c.specs.Answers.{legalReturns, legalWrites, LegalFits}
 use Rattle.bikuvoa_c.proofs.FitLaws.{legal-fits}
-use Rattle.bikuvoa_c.proofs.bikuvoa_legal.Statement.{statement}
-use Rattle.bikuvoa_c.proofs.bikuvoa_legal.Tie as tie
+use Rattle.bikuvoa_c.proofs.states.bikuvoa_legal.Statement.{statement}
+use Rattle.bikuvoa_c.proofs.states.bikuvoa_legal.Tie as tie
 
 legal-requires : tie.Need-legal-requires
 legal-requires c κs = tt

@@ -3,8 +3,8 @@ use borrow.Author.Needs.{needs}
 use mathlib.Core.Path.{_∙_, ap}
 use Rattle.judge.specs.Select.{Result}
 use Rattle.bikuvoa_c.specs.Answers.{selectReturns, selectWrites}
-use Rattle.bikuvoa_c.proofs.bikuvoa_select.Statement.{statement}
-use Rattle.bikuvoa_c.proofs.bikuvoa_select.Tie as tie
+use Rattle.bikuvoa_c.proofs.states.bikuvoa_select.Statement.{statement}
+use Rattle.bikuvoa_c.proofs.states.bikuvoa_select.Tie as tie
 
 select-requires : tie.Need-select-requires
 select-requires c κs = tt

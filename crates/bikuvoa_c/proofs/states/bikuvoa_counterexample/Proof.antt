@@ -3,8 +3,8 @@ use mathlib.Core.Path.{_∙_, sym, ap, subst}
 use Rattle.judge.specs.declared.counterexample.CounterexampleAnswer.{CounterexampleAnswer}
 use Rattle.bikuvoa_c.specs.Answers.{counterexampleReturns, counterexampleWrites, CounterexampleFits}
 use Rattle.bikuvoa_c.proofs.FitLaws.{counterexample-fits}
-use Rattle.bikuvoa_c.proofs.bikuvoa_counterexample.Statement.{statement}
-use Rattle.bikuvoa_c.proofs.bikuvoa_counterexample.Tie as tie
+use Rattle.bikuvoa_c.proofs.states.bikuvoa_counterexample.Statement.{statement}
+use Rattle.bikuvoa_c.proofs.states.bikuvoa_counterexample.Tie as tie
 
 counterexample-requires : tie.Need-counterexample-requires
 counterexample-requires c κs = tt
