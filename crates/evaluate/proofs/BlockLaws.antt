@@ -12,8 +12,9 @@ use lib.Bits.{bitOr}
 use lib.Dec.{eqb, ltb}
 use lib.ListN.{length, getD, set}
 use Rattle.records.specs.Layout.{objectPart}
-use Rattle.index.specs.BitSet.{wordBits, bit, bitAt}
-use Rattle.index.proofs.BitLaws.{word-or}
+use Rattle.records.specs.Finite.{bit}
+use Rattle.index.specs.BitSet.{wordBits, bitAt}
+use Rattle.records.proofs.General.BitLaws.{word-or}
 use Rattle.evaluate.specs.Selection.{setWords}
 use Rattle.evaluate.specs.Rows.{rowBit, Filled, SharedRow}
 use Rattle.evaluate.specs.Blocks.{blockWords, blockBits, setBlocks, blockBit, cell, BlockMerged, Joined, Merged}

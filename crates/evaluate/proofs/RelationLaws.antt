@@ -15,9 +15,10 @@ use Rattle.records.specs.Layout.{stateLayout, entries}
 use Rattle.records.specs.StateRecord.{objects, kindAt}
 use Rattle.records.proofs.General.BoolLaws.{and-left, and-both, and-map, or-true-cases, or-left, or-right, test-same, eqb-same}
 use Rattle.records.proofs.General.FiniteLaws.{any-zero, any-more, any-same}
-use Rattle.index.specs.BitSet.{wordBits, bit, bitAt, Inserted}
+use Rattle.records.specs.Finite.{bit}
+use Rattle.index.specs.BitSet.{wordBits, bitAt, Inserted}
 use Rattle.index.specs.Kinds.{KindParts}
-use Rattle.index.proofs.BitLaws.{word-or, word-and, word-zero}
+use Rattle.records.proofs.General.BitLaws.{word-or, word-and, word-zero}
 use Rattle.index.proofs.BitSetLaws.{zero-bits}
 use Rattle.index.proofs.KindLaws.{kind-before, kind-after, kind-within}
 use Rattle.evaluate.specs.declared.steps.Step.{Step}

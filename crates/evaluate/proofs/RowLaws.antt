@@ -12,8 +12,9 @@ use lib.ListN.{length, length-set, getD, set, replicate}
 use lib.Seq.{getD-set-same, getD-set-other}
 use Rattle.records.proofs.General.BoolLaws.{or-true-cases, or-left, or-right, test-same}
 use mathlib.Core.Logic.{⊎-elim}
-use Rattle.index.specs.BitSet.{wordBits, bit, bitAt, Inserted}
-use Rattle.index.proofs.BitLaws.{word-and}
+use Rattle.records.specs.Finite.{bit}
+use Rattle.index.specs.BitSet.{wordBits, bitAt, Inserted}
+use Rattle.records.proofs.General.BitLaws.{word-and}
 use Rattle.index.proofs.BitSetLaws.{zero-bits}
 use Rattle.evaluate.specs.Selection.{setWords}
 use Rattle.evaluate.specs.Rows.{rowBit, Filled, SharedRow, Row, Put, Below}

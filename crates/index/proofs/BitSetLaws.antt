@@ -13,9 +13,10 @@ use lib.Dec.{eqb}
 use lib.ListN.{length, length-set, getD, set, replicate, length-replicate, getD-replicate, List·getD-eq-default}
 use lib.Pow.{shl-exact}
 use lib.Seq.{getD-set-same, getD-set-other}
-use Rattle.index.specs.BitSet.{wordBits, bit, bitAt, Inserted}
+use Rattle.records.specs.Finite.{bit}
+use Rattle.index.specs.BitSet.{wordBits, bitAt, Inserted}
 use Rattle.records.proofs.General.BoolLaws.{eqb-same}
-use Rattle.index.proofs.BitLaws.{word-or, word-zero, word-one}
+use Rattle.records.proofs.General.BitLaws.{word-or, word-zero, word-one}
 
 -- a number past the end is not in the set
 pub past-bits : (ws : List ℕ) (b : ℕ) → length ws ≤ b / wordBits → bitAt ws b ≡ false

@@ -1,18 +1,15 @@
 -- Sets of numbers as lists of 64-bit words: number b is in the set if bit b % 64 of word b / 64 is 1.
 -- A number past the end is in no set.
-use Prim.Native.Nat.{ℕ, _/_, _%_, _^_}
+use Prim.Native.Nat.{ℕ, _/_, _%_}
 use mathlib.Core.Bool.{Bool, _||_}
 use mathlib.Core.List.{List}
 use mathlib.Core.Path.{_≡_}
 use lib.Dec.{eqb}
 use lib.ListN.{length, getD}
+use Rattle.records.specs.Finite.{bit}
 
 abbrev pub wordBits : ℕ
 wordBits = 64
-
--- bit k of a number
-abbrev pub bit : ℕ → ℕ → Bool
-bit x k = eqb (x / 2 ^ k % 2) 1
 
 -- bit b of a list of 64-bit words
 unfoldable pub bitAt : List ℕ → ℕ → Bool

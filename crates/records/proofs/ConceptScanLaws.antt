@@ -200,7 +200,3 @@ module _ (s : Signature) (w : List ℕ) where
   pub scanned-6 : {σ : Sorts} {k : ℕ} → Scanned s w (entries conceptLayout w) σ k → (limit : ℕ) → refusal-6 limit w ≡ (not (eqb k (getD w 1 0)) || ltb limit k)
   unfolding refusal-6 steps sizeAt
   scanned-6 z limit = rw (z .steps)
-
-pub byte-small : (b : Bool) → boolByte b ≤ 1
-byte-small true = omega arith
-byte-small false = omega arith

@@ -1,7 +1,8 @@
--- Searches over the numbers below n, by a test f: whether all pass, whether some does, how many do, and the first; and sums.
--- Plain mathematics; no part of the papers.
-use Prim.Native.Nat.{ℕ, zero, suc, _+_}
+-- Searches over the numbers below n, by a test f: whether all pass, whether some does, how many do, and the first; sums; and
+-- bits. Plain mathematics; no part of the papers.
+use Prim.Native.Nat.{ℕ, zero, suc, _+_, _/_, _%_, _^_}
 use mathlib.Core.Bool.{Bool, true, false, cond, _&&_, _||_}
+use lib.Dec.{eqb}
 
 unfoldable pub all : ℕ → (ℕ → Bool) → Bool
 all zero f = true
@@ -24,3 +25,7 @@ sum (suc n) f = sum n f + f n
 unfoldable pub least : ℕ → (ℕ → Bool) → ℕ
 least zero f = zero
 least (suc n) f = cond (any n f) (least n f) (cond (f n) n (suc n))
+
+-- A set of numbers is a number: k is in it if digit k, counted from the lowest, is 1.
+abbrev pub bit : ℕ → ℕ → Bool
+bit x k = eqb (x / 2 ^ k % 2) 1

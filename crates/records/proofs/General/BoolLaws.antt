@@ -1,10 +1,12 @@
 -- What a joined test tells of its parts, and statements of a choice by what its test says.
-use Prim.Native.Nat.{ℕ}
+use Prim.Native.Nat.{ℕ, _≤_}
 use mathlib.Core.Bool.{Bool, true, false, So, cond, not, _&&_, _||_, Bool·beq, true≢false, false≢true}
 use mathlib.Core.Path.{_≡_, refl, sym}
 use lib.Dec.{eqb}
 use borrow.Author.Tests.{eq-eqb, eqb-true}
 use mathlib.Core.Logic.{_⊎_, inl, inr, _↔_, Iff·rfl}
+use native.Mathlib.Omega.{arith}
+use mir.Val.{boolByte}
 
 pub or-false-left : (a b : Bool) → (a || b) ≡ false → a ≡ false
 or-false-left true b e = e
@@ -109,3 +111,8 @@ test-same false false f g = refl
 
 pub eqb-same : (a b c d : ℕ) → (a ≡ b → c ≡ d) → (c ≡ d → a ≡ b) → eqb a b ≡ eqb c d
 eqb-same a b c d f g = test-same (eqb a b) (eqb c d) (λ t. eq-eqb c d (f (eqb-true a b t))) (λ t. eq-eqb a b (g (eqb-true c d t)))
+
+-- a test as a number
+pub byte-small : (b : Bool) → boolByte b ≤ 1
+byte-small true = omega arith
+byte-small false = omega arith

@@ -4,7 +4,7 @@ use borrow.Author.Needs.{needs}
 use native.Mathlib.Nat.{le-antisymm}
 use native.Mathlib.Omega.{arith}
 use mathlib.Core.Path.{_∙_, ap}
-use Rattle.records.proofs.ConceptScanLaws.{byte-small}
+use Rattle.records.proofs.General.BoolLaws.{byte-small}
 use Rattle.primary.specs.Formed.{prime}
 use Rattle.ground.proofs.NumberLaws.{grounds-none, grounds-room, grounds-more, grounds-all, live-any}
 use Rattle.ground.specs.Laying.{Grounds}

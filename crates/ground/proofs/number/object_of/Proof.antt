@@ -4,7 +4,7 @@ use borrow.Author.Needs.{needs}
 use native.Mathlib.Nat.{le-antisymm}
 use native.Mathlib.Omega.{arith}
 use mathlib.Core.Path.{_≡_, ap, _∙_}
-use Rattle.records.proofs.ConceptScanLaws.{byte-small}
+use Rattle.records.proofs.General.BoolLaws.{byte-small}
 use Rattle.records.proofs.General.FiniteLaws.{count-le, count-turn}
 use Rattle.records.specs.Finite.{count}
 use Rattle.chase.specs.Ground.{objectOf}

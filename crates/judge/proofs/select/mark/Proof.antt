@@ -10,7 +10,7 @@ use native.Mathlib.Nat.{le-antisymm}
 use mathlib.Core.List.{_++_}
 use Rattle.records.specs.Finite.{count}
 use Rattle.records.proofs.General.FiniteLaws.{count-le, count-turn}
-use Rattle.records.proofs.ConceptScanLaws.{byte-small}
+use Rattle.records.proofs.General.BoolLaws.{byte-small}
 use Rattle.index.specs.BitSet.{bitAt}
 use Rattle.judge.proofs.select.mark.Statement.{statement}
 use Rattle.judge.proofs.select.mark.Tie as tie

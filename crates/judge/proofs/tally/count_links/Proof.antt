@@ -6,7 +6,7 @@ use borrow.Author.Needs.{needs}
 use Rattle.records.specs.Finite.{count}
 use Rattle.records.specs.Layout.{stateLayout, entries}
 use Rattle.records.proofs.General.FiniteLaws.{count-turn}
-use Rattle.records.proofs.ConceptScanLaws.{byte-small}
+use Rattle.records.proofs.General.BoolLaws.{byte-small}
 use Rattle.judge.specs.Tally.{linkAt}
 use Rattle.judge.proofs.TallyLaws.{link-here, links-none, links-few, links-all}
 use Rattle.judge.proofs.tally.count_links.Statement.{statement}

@@ -4,7 +4,7 @@ use mathlib.Core.Path.{_≡_}
 use native.Mathlib.Omega.{arith}
 use borrow.Author.Needs.{needs}
 use Rattle.records.specs.Layout.{stateLayout, entries, rightAt, maxObjects}
-use Rattle.records.proofs.ConceptScanLaws.{byte-small}
+use Rattle.records.proofs.General.BoolLaws.{byte-small}
 use Rattle.judge.specs.Tally.{Tallied}
 use Rattle.judge.proofs.TallyLaws.{link-here, tallied-none, tallied-few, tallied-more, tallied-all}
 use Rattle.judge.proofs.tally.tally.Statement.{statement}

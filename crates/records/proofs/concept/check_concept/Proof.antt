@@ -1,9 +1,10 @@
 -- The scan keeps the faults, the sorts and the steps of the tokens passed (Scanned of ConceptScanLaws).
 use Prim.Native.Nat.{_-_, _≤_, ℕ}
+use Rattle.records.proofs.General.BoolLaws.{byte-small}
 use Rattle.records.proofs.General.FiniteLaws.{any-of}
 use Rattle.records.proofs.RefusalLaws.{answer-3, answer-4, answer-5, answer-6, concept-accepted}
 use Rattle.records.proofs.AcceptedLaws.{tokens-few}
-use Rattle.records.proofs.ConceptScanLaws.{Scanned, byte-small, scanned-4, scanned-5, scanned-6, scanned-few, scanned-more, scanned-none, scanned-room}
+use Rattle.records.proofs.ConceptScanLaws.{Scanned, scanned-4, scanned-5, scanned-6, scanned-few, scanned-more, scanned-none, scanned-room}
 use Rattle.records.specs.Layout.{conceptLayout, entries}
 use Rattle.records.specs.ConceptRefusal.{refusal-4, steps}
 use borrow.Author.Needs.{needs}

@@ -5,7 +5,7 @@ use native.Mathlib.Omega.{arith}
 use native.Mathlib.Nat.{le-antisymm}
 use mathlib.Core.Path.{_≡_, ap, _∙_}
 use Rattle.records.specs.ConceptRefusal.{isStep}
-use Rattle.records.proofs.ConceptScanLaws.{byte-small}
+use Rattle.records.proofs.General.BoolLaws.{byte-small}
 use Rattle.records.specs.Helpers.Reading.{stepNumber}
 use Rattle.records.proofs.ReadingScanLaws.{number-none, number-few, number-more}
 use Rattle.records.proofs.reading.step_number.Statement.{statement}

@@ -10,7 +10,7 @@ use borrow.Author.Tests.{eq-eqb, ne-eqb}
 use lib.Bits.{bitAnd, bitOr, and-step, or-step, and-shr, or-shr}
 use lib.Dec.{eqb}
 use lib.Pow.{pow-add, pow-lt, pow-pos, shl-shr}
-use Rattle.index.specs.BitSet.{bit}
+use Rattle.records.specs.Finite.{bit}
 
 -- An operation through which a shift passes does to the bits what it does to the lowest digits.
 module _ (op low : ℕ → ℕ → ℕ) (on : Bool → Bool → Bool)
