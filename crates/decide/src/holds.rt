@@ -36,11 +36,11 @@ pub fn holds(schema: &[u16], query: &[u16], view: &[u16]) -> HoldsAnswer
         return HoldsAnswer::Refused(checked.number());
     };
     let read = check_query(s, query);
-    let ConceptAnswer::Accepted = read else {
+    let ConceptAnswer::Accepted(_) = read else {
         return HoldsAnswer::Refused(read.number());
     };
     let stored = check_view(s, view);
-    let ConceptAnswer::Accepted = stored else {
+    let ConceptAnswer::Accepted(_) = stored else {
         return HoldsAnswer::Refused(stored.number());
     };
     // No words are lent, so that no state is written.

@@ -29,11 +29,11 @@ pub fn decide(schema: &[u16], query: &[u16], view: &[u16], lent: &mut [u16]) -> 
         return DecideAnswer::Refused(checked.number());
     };
     let read = check_query(s, query);
-    let ConceptAnswer::Accepted = read else {
+    let ConceptAnswer::Accepted(_) = read else {
         return DecideAnswer::Refused(read.number());
     };
     let stored = check_view(s, view);
-    let ConceptAnswer::Accepted = stored else {
+    let ConceptAnswer::Accepted(_) = stored else {
         return DecideAnswer::Refused(stored.number());
     };
     if lent.len() < STATE_WORDS {

@@ -77,11 +77,11 @@ pub fn counterexample(
         return CounterexampleAnswer::Refused(checked.number());
     };
     let read = check_query(s, query);
-    let ConceptAnswer::Accepted = read else {
+    let ConceptAnswer::Accepted(_) = read else {
         return CounterexampleAnswer::Refused(read.number());
     };
     let stored = check_view(s, view);
-    let ConceptAnswer::Accepted = stored else {
+    let ConceptAnswer::Accepted(_) = stored else {
         return CounterexampleAnswer::Refused(stored.number());
     };
     let judged = check_state(s, state);

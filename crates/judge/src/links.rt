@@ -54,7 +54,7 @@ fn check(schema: &[u16], concept: &[u16], state: &[u16], attribute: usize) -> Ch
         return Checked::Refused(declared.number());
     };
     let read = check_query(s, concept);
-    let ConceptAnswer::Accepted = read else {
+    let ConceptAnswer::Accepted(_) = read else {
         return Checked::Refused(read.number());
     };
     let judged = check_state(s, state);

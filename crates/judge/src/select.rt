@@ -45,7 +45,7 @@ pub fn select(schema: &[u16], concept: &[u16], state: &[u16], lent: &mut [u16]) 
         return SelectAnswer::Refused(checked.number());
     };
     let read = check_query(s, concept);
-    let ConceptAnswer::Accepted = read else {
+    let ConceptAnswer::Accepted(_) = read else {
         return SelectAnswer::Refused(read.number());
     };
     let judged = check_state(s, state);

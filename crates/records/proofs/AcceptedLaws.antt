@@ -11,6 +11,7 @@ use Rattle.records.specs.declared.schema.Axiom.{Axiom}
 use Rattle.records.specs.declared.schema.Axiom.the-variants.{Subclass, Typing, Necessary, Single, Relates}
 use Rattle.records.specs.declared.token.Token.{Token}
 use Rattle.records.specs.declared.token.Token.the-variants.{Class, Everything, Constant, Both, Empty, Forward, Backward, Reached, Common}
+use Rattle.records.specs.declared.named.Named.{Named}
 use Rattle.records.specs.declared.schema.SchemaAnswer.the-variants as schema
 use Rattle.records.specs.declared.concept.ConceptAnswer.the-variants as concept
 use Rattle.records.specs.declared.state.StateAnswer.the-variants as state
@@ -22,6 +23,7 @@ use Rattle.records.specs.ConceptRecord.{tokenAt, conceptOf}
 use Rattle.records.specs.StateRecord.{objects, stateOf}
 use Rattle.records.specs.State.{repeats}
 use Rattle.records.specs.Shape.{misshapen, outside}
+use Rattle.records.specs.Named.{namedIn}
 use Rattle.records.specs.SchemaRefusal.{oversized, declares, faultyAxiom, refusal-1, refusal-2, schemaAnswer, AcceptedSchema}
 use Rattle.records.specs.ConceptRefusal.{suits, faultyToken, steps, refusal-3, refusal-4, refusal-5, refusal-6, conceptAnswer, AcceptedConcept}
 use Rattle.records.specs.StateRefusal.{faultyFact, ascends, descends, namesAt, misnames, refusal-7, refusal-8, refusal-9, refusal-10, stateAnswer, AcceptedState}
@@ -48,17 +50,17 @@ module _ (w : List ℕ) (ok : AcceptedSchema w) where
   unfolding schemaAnswer
   passes-2 = schema-none (refusal-1 w) (refusal-2 w) ok .1
 
-concept-none : (a b c d : Bool) → cond a concept.BadShape (cond b concept.BadToken (cond c concept.BadPile (cond d concept.BadSteps concept.Accepted))) ≡ concept.Accepted → (a ≡ false) × (b ≡ false) × (c ≡ false) × (d ≡ false)
-concept-none true b c d e = (cc, cc, cc, cc)
-concept-none false true c d e = (cc, cc, cc, cc)
-concept-none false false true d e = (cc, cc, cc, cc)
-concept-none false false false true e = (cc, cc, cc, cc)
-concept-none false false false false e = (refl, refl, refl, refl)
+concept-none : (v : Named) (a b c d : Bool) → cond a concept.BadShape (cond b concept.BadToken (cond c concept.BadPile (cond d concept.BadSteps (concept.Accepted v)))) ≡ concept.Accepted v → (a ≡ false) × (b ≡ false) × (c ≡ false) × (d ≡ false)
+concept-none v true b c d e = (cc, cc, cc, cc)
+concept-none v false true c d e = (cc, cc, cc, cc)
+concept-none v false false true d e = (cc, cc, cc, cc)
+concept-none v false false false true e = (cc, cc, cc, cc)
+concept-none v false false false false e = (refl, refl, refl, refl)
 
 module _ (limit : ℕ) (s : Signature) (w : List ℕ) (ok : AcceptedConcept limit s w) where
   passes-concept : (refusal-3 w ≡ false) × (refusal-4 s w ≡ false) × (refusal-5 w ≡ false) × (refusal-6 limit w ≡ false)
   unfolding conceptAnswer
-  passes-concept = concept-none (refusal-3 w) (refusal-4 s w) (refusal-5 w) (refusal-6 limit w) ok
+  passes-concept = concept-none (namedIn w) (refusal-3 w) (refusal-4 s w) (refusal-5 w) (refusal-6 limit w) ok
 
   pub passes-3 : refusal-3 w ≡ false
   passes-3 = passes-concept .0

@@ -1,5 +1,5 @@
--- What the check of a concept keeps while it scans the tokens is what refusals 4 to 6 ask: the sorts of the pile's items
--- as bits, and the count of steps.
+-- What the check of a concept keeps while it scans the tokens is what refusals 4 to 6 ask, and what is named: the sorts of the
+-- pile's items as bits, the count of steps, and the sets.
 use Prim.Native.Nat.{ℕ, zero, suc, _+_, _-_, _*_, _/_, _%_, _^_, _≤_, _<_}
 use mathlib.Core.Bool.{Bool, true, false, cond, not, _||_}
 use mathlib.Core.List.{List, [], _∷_}
@@ -10,20 +10,25 @@ use lib.Pow.{pow-pos, pow-mono}
 use native.Mathlib.Numerals.{add-one, sub-one}
 use native.Mathlib.Omega.{arith}
 use borrow.Author.Tests.{lt-ltb, le-ltb, eq-eqb, ne-eqb}
+use lib.Bits.{bitOr}
 use lib.Dec.{eqb, ltb}
 use lib.ListN.{length, getD}
 use mir.Val.{boolByte}
 use Rattle.records.specs.declared.token.Token.{Token}
 use Rattle.records.specs.declared.token.Token.the-variants.{Class, Everything, Constant, Both, Empty, Forward, Backward, Reached, Common}
 use Rattle.records.specs.declared.sorts.Sorts.{Sorts}
+use Rattle.records.specs.declared.scan.Scan.{Scan}
 use Rattle.records.specs.Concept.{class, everything, constant, empty}
-use Rattle.records.specs.ConceptRecord.{Item, Pile, after, pileAfter, tokenAt}
+use Rattle.records.specs.ConceptRecord.{Item, Pile, after, pileAfter, tokenOf, tokenAt}
 use Rattle.records.specs.declared.schema.Signature.{Signature}
-use Rattle.records.specs.Finite.{any, count}
-use Rattle.records.specs.ConceptRefusal.{isConcept, faultyToken, stepAt, steps, refusal-4, refusal-5, refusal-6}
-use Rattle.records.specs.Layout.{conceptLayout, entries, sizeAt}
-use Rattle.records.proofs.General.FiniteLaws.{any-zero, any-still, count-turn, count-le}
-use Rattle.records.specs.Helpers.Scan.{putSort, joinSorts, reachSort, pushOk, pushSort, isConceptSort}
+use Rattle.records.specs.Finite.{any, count, setOf}
+use Rattle.records.specs.ConceptRefusal.{isConcept, suits, faultyToken, stepAt, steps, refusal-3, refusal-4, refusal-5, refusal-6, conceptAnswer}
+use Rattle.records.specs.Layout.{conceptLayout, entries, leftAt, rightAt, sizeAt, maxClasses, maxAttributes}
+use Rattle.records.specs.Shape.{outside}
+use Rattle.records.specs.Named.{hasClass, hasAttribute, classNamed, attributeNamed, namedIn}
+use Rattle.records.proofs.General.FiniteLaws.{count-le}
+use Rattle.records.proofs.General.SetLaws.{set-none, set-or, set-ones}
+use Rattle.records.specs.Helpers.Scan.{putSort, joinSorts, reachSort, pushOk, pushSort, isConceptSort, readToken, namedBy, scanAnswer}
 
 -- The pile's sorts.
 
@@ -162,41 +167,66 @@ pub pile-bits : (p : Pile) (n : ℕ) → sortsOf p .height ≤ n → sortsOf p .
 pile-bits none n h = pow-pos n
 pile-bits (some s) n h = lt-of-lt-of-le (bits-small s) (pow-mono h)
 
+-- A token by its two words, and whether it is faulty.
+module _ (w : List ℕ) (i : ℕ) {sort argument : ℕ} (l : sort ≡ leftAt conceptLayout w i) (r : argument ≡ rightAt conceptLayout w i) where
+  pub token-of : tokenOf sort argument ≡ tokenAt w i
+  unfolding tokenAt
+  token-of = rw (l, r)
+
+  pub fault-of : (s : Signature) → (outside 1 9 sort || not (suits s (tokenOf sort argument) argument)) ≡ faultyToken s w i
+  unfolding faultyToken tokenAt
+  fault-of s = rw (l, r)
+
 -- What the check of a concept has kept after i tokens.
-pub record Scanned (s : Signature) (w : List ℕ) (i : ℕ) (σ : Sorts) (k : ℕ) : Type 0 where
-  pub faultless : any i (faultyToken s w) ≡ false
-  pub pile : σ ≡ sortsOf (pileAfter w i)
-  pub steps : k ≡ count i (stepAt w)
+unfoldable pub scanAfter : List ℕ → ℕ → Scan
+scanAfter w zero = record { pile = sortsOf (some []); steps = 0; classes = 0; attributes = 0 }
+scanAfter w (suc i) = readToken (tokenAt w i) (scanAfter w i)
 
-module _ (s : Signature) (w : List ℕ) where
-  pub scanned-none : Scanned s w 0 (sortsOf (some [])) 0
-  unfolding pileAfter count
-  scanned-none = record { faultless = any-zero (faultyToken s w); pile = refl; steps = refl }
+module _ (w : List ℕ) where
+  scan-pile : (i : ℕ) → scanAfter w i .pile ≡ sortsOf (pileAfter w i)
+  unfolding scanAfter pileAfter
+  scan-pile zero = refl
+  scan-pile (suc i) = ap (pushSort (tokenAt w i)) (scan-pile i) ∙ sym (after-sorts (tokenAt w i) (pileAfter w i))
 
-  pub scanned-more : {i : ℕ} {σ : Sorts} {k : ℕ} → Scanned s w i σ k → faultyToken s w i ≡ false → (τ : Sorts) → τ ≡ pushSort (tokenAt w i) σ → (b : Bool) → b ≡ stepAt w i → Scanned s w (i + 1) τ (k + boolByte b)
-  unfolding pileAfter
-  scanned-more {i} {σ} {k} z ok τ p b q =
-      record {
-        faultless = any-still (faultyToken s w) i (z .faultless) ok;
-        pile = rw (add-one, after-sorts (tokenAt w i) (pileAfter w i)) (p ∙ ap (λ (x : Sorts). pushSort (tokenAt w i) x) (z .pile));
-        steps = count-turn (stepAt w) i k b (z .steps) q;
-      }
+  scan-steps : (i : ℕ) → scanAfter w i .steps ≡ count i (stepAt w)
+  unfolding scanAfter count
+  scan-steps zero = refl
+  scan-steps (suc i) = ap (λ (k : ℕ). k + boolByte (stepAt w i)) (scan-steps i) ∙ pick (stepAt w i)
+    where
+      pick : (b : Bool) → count i (stepAt w) + boolByte b ≡ cond b (suc (count i (stepAt w))) (count i (stepAt w))
+      pick true = omega arith
+      pick false = omega arith
 
-  pub scanned-room : {i : ℕ} {σ : Sorts} {k : ℕ} → Scanned s w i σ k → i < 64 → (σ .bits < 2 ^ 63) × (σ .height < 64)
-  scanned-room {i} {σ} {k} z l =
-      rw (z .pile) (pile-bits (pileAfter w i) 63 (omega (arith, pile-height w i)), omega (arith, pile-height w i))
+  -- one token more, for either set
+  named-more : (names : ℕ → Token → Bool) (n i : ℕ) {c : ℕ} → c ≡ setOf n (λ x. any i λ j. names x (tokenAt w j))
+      → bitOr c (setOf n λ x. names x (tokenAt w i)) ≡ setOf n (λ x. any (suc i) λ j. names x (tokenAt w j))
+  unfolding any
+  named-more names n i e =
+      rw e (sym (set-or (λ x. any i λ j. names x (tokenAt w j)) (λ x. names x (tokenAt w i)) n))
 
-  pub scanned-few : {i : ℕ} {σ : Sorts} {k : ℕ} → Scanned s w i σ k → k ≤ i
-  scanned-few {i} z = rw (z .steps) (count-le (stepAt w) i)
+  scan-classes : (i : ℕ) → scanAfter w i .classes ≡ setOf maxClasses (λ A. any i λ j. hasClass A (tokenAt w j))
+  unfolding scanAfter any
+  scan-classes zero = sym (set-none (λ A. false) maxClasses (λ A l. refl))
+  scan-classes (suc i) = named-more hasClass maxClasses i (scan-classes i)
 
-  pub scanned-4 : {σ : Sorts} {k : ℕ} → Scanned s w (entries conceptLayout w) σ k → refusal-4 s w ≡ false
-  unfolding refusal-4
-  scanned-4 z = z .faultless
+  scan-attributes : (i : ℕ) → scanAfter w i .attributes ≡ setOf maxAttributes (λ P. any i λ j. hasAttribute P (tokenAt w j))
+  unfolding scanAfter any
+  scan-attributes zero = sym (set-none (λ P. false) maxAttributes (λ P l. refl))
+  scan-attributes (suc i) = named-more hasAttribute maxAttributes i (scan-attributes i)
 
-  pub scanned-5 : {σ : Sorts} {k : ℕ} → Scanned s w (entries conceptLayout w) σ k → refusal-5 w ≡ not (isConceptSort σ)
-  unfolding refusal-5
-  scanned-5 z = rw (z .pile, concept-sorts (pileAfter w (entries conceptLayout w)))
+  -- there is room for one token more
+  pub scan-room : (i : ℕ) → i < 64 → (scanAfter w i .pile .bits < 2 ^ 63) × (scanAfter w i .pile .height < 64) × (scanAfter w i .steps < 64)
+  scan-room i l =
+      rw (scan-pile i, scan-steps i)
+      (pile-bits (pileAfter w i) 63 (omega (arith, pile-height w i)), omega (arith, pile-height w i), omega (arith, count-le (stepAt w) i))
 
-  pub scanned-6 : {σ : Sorts} {k : ℕ} → Scanned s w (entries conceptLayout w) σ k → (limit : ℕ) → refusal-6 limit w ≡ (not (eqb k (getD w 1 0)) || ltb limit k)
-  unfolding refusal-6 steps sizeAt
-  scanned-6 z limit = rw (z .steps)
+  scan-named : namedBy (scanAfter w (entries conceptLayout w)) ≡ namedIn w
+  unfolding namedIn classNamed attributeNamed
+  scan-named = rw (scan-classes (entries conceptLayout w), scan-attributes (entries conceptLayout w), set-ones (classNamed w) maxClasses)
+
+  -- what all tokens come to
+  pub scan-answer : (limit : ℕ) (s : Signature) {i k : ℕ} {σ : Scan} → i ≡ entries conceptLayout w → k ≡ getD w 1 0 → σ ≡ scanAfter w i
+      → refusal-3 w ≡ false → any i (faultyToken s w) ≡ false → scanAnswer limit k σ ≡ conceptAnswer limit s w
+  unfolding conceptAnswer refusal-4 refusal-5 refusal-6 steps sizeAt
+  scan-answer limit s e q z shape tokens =
+      rw (z, q, e, shape, rw e at tokens, scan-named, scan-pile (entries conceptLayout w), scan-steps (entries conceptLayout w), concept-sorts (pileAfter w (entries conceptLayout w)))

@@ -6,6 +6,7 @@ pub mod EncodingLaws
 pub mod RefusalLaws
 pub mod OutcomeLaws
 pub mod AcceptedLaws
+pub mod NamedLaws
 pub mod ConceptScanLaws
 pub mod StateScanLaws
 pub mod FactLaws

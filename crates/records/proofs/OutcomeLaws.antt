@@ -19,11 +19,13 @@ use Rattle.records.specs.declared.schema.SchemaAnswer.{SchemaAnswer}
 use Rattle.records.specs.declared.schema.SchemaAnswer.the-variants as of-schema
 use Rattle.records.specs.declared.concept.ConceptAnswer.{ConceptAnswer}
 use Rattle.records.specs.declared.concept.ConceptAnswer.the-variants as of-concept
+use Rattle.records.specs.declared.named.Named.{Named}
 use Rattle.records.specs.declared.state.StateAnswer.{StateAnswer}
 use Rattle.records.specs.declared.state.StateAnswer.the-variants as of-state
 use Rattle.records.specs.Layout.{querySteps, viewSteps}
 use Rattle.records.specs.SchemaRefusal.{schemaNumber, refusal-1, refusal-2, schemaAnswer, AcceptedSchema}
-use Rattle.records.specs.ConceptRefusal.{conceptNumber, conceptAnswer, AcceptedConcept}
+use Rattle.records.specs.Named.{namedIn}
+use Rattle.records.specs.ConceptRefusal.{refusal-3, refusal-4, refusal-5, refusal-6, conceptNumber, conceptAnswer, AcceptedConcept}
 use Rattle.records.specs.StateRefusal.{stateNumber, stateAnswer, AcceptedState}
 use Rattle.records.specs.Outcome.{refusal-11, refusal-12, schemaRefusal, queryRefusal, viewRefusal, stateRefusal, lentRefusal, attributeRefusal, firstRefusal, outcome}
 use Rattle.records.specs.SchemaRecord.{signatureOf}
@@ -121,7 +123,7 @@ schema-not-accepted of-schema.BadShape t = refl
 schema-not-accepted of-schema.BadAxiom t = refl
 
 concept-not-accepted : (a : ConceptAnswer) → OneOf (1 ∷ 2 ∷ 3 ∷ 4 ∷ []) (tagOf Concept.the-type a) → eqb (conceptNumber a) 0 ≡ false
-concept-not-accepted of-concept.Accepted t = absurd (none-of-four t)
+concept-not-accepted (of-concept.Accepted named) t = absurd (none-of-four t)
 concept-not-accepted of-concept.BadShape t = refl
 concept-not-accepted of-concept.BadToken t = refl
 concept-not-accepted of-concept.BadPile t = refl
@@ -189,19 +191,37 @@ module _ (schema : List ℕ) where
   pub state-passed : (state : List ℕ) → AcceptedState (signatureOf schema) state → stateRefusal schema state ≡ 0
   state-passed state ok = ap stateNumber ok
 
-accepted-concept : (a : ConceptAnswer) → conceptNumber a ≡ 0 → a ≡ of-concept.Accepted
-accepted-concept of-concept.Accepted e = refl
-accepted-concept of-concept.BadShape e = absurd (omega arith)
-accepted-concept of-concept.BadToken e = absurd (omega arith)
-accepted-concept of-concept.BadPile e = absurd (omega arith)
-accepted-concept of-concept.BadSteps e = absurd (omega arith)
+-- the answer by four tests
+abbrev by-tests : Named → Bool → Bool → Bool → Bool → ConceptAnswer
+by-tests v a b c d =
+    cond a of-concept.BadShape (cond b of-concept.BadToken (cond c of-concept.BadPile (cond d of-concept.BadSteps (of-concept.Accepted v))))
+
+module _ (limit : ℕ) (s : Signature) (w : List ℕ) where
+  pub passed-concept : conceptNumber (conceptAnswer limit s w) ≡ 0 → AcceptedConcept limit s w
+  unfolding conceptAnswer
+  passed-concept e = pick (namedIn w) (refusal-3 w) (refusal-4 s w) (refusal-5 w) (refusal-6 limit w) e
+    where
+      pick : (v : Named) (a b c d : Bool) → conceptNumber (by-tests v a b c d) ≡ 0 → by-tests v a b c d ≡ of-concept.Accepted v
+      pick v true b c d h = absurd (omega arith)
+      pick v false true c d h = absurd (omega arith)
+      pick v false false true d h = absurd (omega arith)
+      pick v false false false true h = absurd (omega arith)
+      pick v false false false false h = refl
+
+  -- what an accepted concept's answer holds
+  pub concept-named : {x : Named} → conceptAnswer limit s w ≡ of-concept.Accepted x → (x ≡ namedIn w) × AcceptedConcept limit s w
+  concept-named e = let ok = passed-concept (ap conceptNumber e) in (cc, ok)
+
+  -- .. for a caller that does not ask what it names
+  pub concept-known : {a : ConceptAnswer} {x : Named} → a ≡ conceptAnswer limit s w → a ≡ of-concept.Accepted x → AcceptedConcept limit s w
+  concept-known q e = concept-named (sym q ∙ e) .1
 
 module _ (schema : List ℕ) where
   pub passed-query : (query : List ℕ) → queryRefusal schema query ≡ 0 → AcceptedConcept querySteps (signatureOf schema) query
-  passed-query query e = accepted-concept _ e
+  passed-query query e = passed-concept querySteps (signatureOf schema) query e
 
   pub passed-view : (view : List ℕ) → viewRefusal schema view ≡ 0 → AcceptedConcept viewSteps (signatureOf schema) view
-  passed-view view e = accepted-concept _ e
+  passed-view view e = passed-concept viewSteps (signatureOf schema) view e
 
   pub passed-state : (state : List ℕ) → stateRefusal schema state ≡ 0 → AcceptedState (signatureOf schema) state
   passed-state state e = pick _ e

@@ -9,7 +9,7 @@ use Rattle.records.specs.declared.concept.ConceptAnswer.the-variants as 
 use Rattle.records.specs.declared.state.StateAnswer.the-variants as state
 use Rattle.records.specs.SchemaRecord.{signatureOf}
 use Rattle.records.specs.SchemaRefusal.{refusal-1, refusal-2, schemaAnswer}
-use Rattle.records.specs.ConceptRefusal.{refusal-3, refusal-4, refusal-5, refusal-6, conceptAnswer}
+use Rattle.records.specs.ConceptRefusal.{refusal-3, refusal-4, conceptAnswer}
 use Rattle.records.specs.StateRefusal.{refusal-7, refusal-8, refusal-9, refusal-10, stateAnswer}
 
 module _ (w : List ℕ) where
@@ -33,18 +33,6 @@ module _ (limit : ℕ) (s : Signature) (w : List ℕ) where
   pub answer-4 : refusal-3 w ≡ false → So (refusal-4 s w) → concept.BadToken ≡ conceptAnswer limit s w
   unfolding conceptAnswer
   answer-4 e h = rw (e, h)
-
-  pub answer-5 : refusal-3 w ≡ false → refusal-4 s w ≡ false → So (refusal-5 w) → concept.BadPile ≡ conceptAnswer limit s w
-  unfolding conceptAnswer
-  answer-5 e f h = rw (e, f, h)
-
-  pub answer-6 : refusal-3 w ≡ false → refusal-4 s w ≡ false → refusal-5 w ≡ false → So (refusal-6 limit w) → concept.BadSteps ≡ conceptAnswer limit s w
-  unfolding conceptAnswer
-  answer-6 e f g h = rw (e, f, g, h)
-
-  pub concept-accepted : refusal-3 w ≡ false → refusal-4 s w ≡ false → refusal-5 w ≡ false → refusal-6 limit w ≡ false → concept.Accepted ≡ conceptAnswer limit s w
-  unfolding conceptAnswer
-  concept-accepted e f g h = rw (e, f, g, h)
 
 module _ (s : Signature) (w : List ℕ) where
   pub answer-7 : So (refusal-7 w) → state.BadShape ≡ stateAnswer s w

@@ -1,5 +1,5 @@
 -- Document 01, "Turned back": the refusals of a concept, each a test named by its number, and the answer of its check: the first
--- that applies. The numbers are the paper's, and 0 for an accepted record.
+-- that applies, or what an accepted concept names. The numbers are the paper's, and 0 for an accepted record.
 use Prim.Native.Nat.{ℕ, _-_}
 use mathlib.Core.List.{List, [], _∷_}
 use mathlib.Core.Option.{none, some}
@@ -15,6 +15,7 @@ use Rattle.records.specs.declared.concept.ConceptAnswer.the-variants as 
 use Rattle.records.specs.Finite.{any, count}
 use Rattle.records.specs.Layout.{conceptLayout, sizeAt, entries, leftAt, rightAt, maxTokens}
 use Rattle.records.specs.ConceptRecord.{tokenAt, Item, Pile, pileAfter}
+use Rattle.records.specs.Named.{namedIn}
 use Rattle.records.specs.Shape.{misshapen, outside}
 
 -- 3. A concept has fewer words than its sizes, n of 0 or above its limit, or a length other than its entries make.
@@ -79,10 +80,10 @@ conceptAnswer limit s w =
     (cond (refusal-4 s w) concept.BadToken
     (cond (refusal-5 w) concept.BadPile
     (cond (refusal-6 limit w) concept.BadSteps
-    concept.Accepted)))
+    (concept.Accepted (namedIn w)))))
 
 abbrev pub conceptNumber : ConceptAnswer → ℕ
-conceptNumber concept.Accepted = 0
+conceptNumber (concept.Accepted named) = 0
 conceptNumber concept.BadShape = 3
 conceptNumber concept.BadToken = 4
 conceptNumber concept.BadPile = 5
@@ -90,4 +91,4 @@ conceptNumber concept.BadSteps = 6
 
 -- A record is accepted if it gets none of its refusals.
 abbrev pub AcceptedConcept : ℕ → Signature → List ℕ → Type 0
-AcceptedConcept limit s w = conceptAnswer limit s w ≡ concept.Accepted
+AcceptedConcept limit s w = conceptAnswer limit s w ≡ concept.Accepted (namedIn w)

@@ -1,5 +1,5 @@
--- Searches over the numbers below n, by a test f: whether all pass, whether some does, how many do, and the first; sums; and
--- bits. Plain mathematics; no part of the papers.
+-- Searches over the numbers below n, by a test f: whether all pass, whether some does, how many do, the first, and the set of
+-- them; and sums. Plain mathematics; no part of the papers.
 use Prim.Native.Nat.{ℕ, zero, suc, _+_, _/_, _%_, _^_}
 use mathlib.Core.Bool.{Bool, true, false, cond, _&&_, _||_}
 use lib.Dec.{eqb}
@@ -29,3 +29,7 @@ least (suc n) f = cond (any n f) (least n f) (cond (f n) n (suc n))
 -- A set of numbers is a number: k is in it if digit k, counted from the lowest, is 1.
 abbrev pub bit : ℕ → ℕ → Bool
 bit x k = eqb (x / 2 ^ k % 2) 1
+
+-- the numbers below n that pass
+unfoldable pub setOf : ℕ → (ℕ → Bool) → ℕ
+setOf n f = sum n λ k. cond (f k) (2 ^ k) 0

@@ -12,6 +12,8 @@ pub mod SchemaRecord
 pub mod ConceptRecord
 pub mod StateRecord
 pub mod Encoding
+-- What a concept names (document 02).
+pub mod Named
 -- Turned back, in checking order.
 pub mod Shape
 pub mod SchemaRefusal

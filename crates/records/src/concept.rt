@@ -1,21 +1,24 @@
-// The check of a concept record: that its tokens make one concept, of declared names and few enough steps.
-use crate::layout::left;
+// The check of a concept record: that its tokens make one concept, of declared names and few enough steps, and what they name.
 use crate::layout::misshapen;
-use crate::layout::right;
 use crate::layout::word;
+use crate::named::Named;
+use crate::scan::START;
+use crate::scan::Scan;
 use crate::schema::Signature;
-use crate::sorts::EMPTY;
 use crate::token::MAX_TOKENS;
 use crate::token::Token;
+use crate::token::argument_at;
 use crate::token::concept_layout;
-use crate::token::is_step;
-use crate::token::token_at;
+use crate::token::sort_at;
 use crate::token::token_of;
 use crate::token::tokens;
 ghost use mathlib.Core.Path.{_≡_};
-ghost use Prim.Native.Nat.{_<_, _^_};
+ghost use mathlib.Core.Bool.{not, _||_};
 ghost use Rattle.records.specs.Layout.{querySteps, viewSteps};
-ghost use Rattle.records.specs.ConceptRefusal.{suits as suitsIn, refusal-3, faultyToken, conceptAnswer, conceptNumber};
+ghost use Rattle.records.specs.ConceptRecord.{tokenOf};
+ghost use Rattle.records.specs.Shape.{outside};
+ghost use Rattle.records.specs.Helpers.Scan.{scanAnswer};
+ghost use Rattle.records.specs.ConceptRefusal.{suits as suitsIn, refusal-3, conceptAnswer, conceptNumber};
 
 // The roles of a concept, with the most steps that each may have.
 pub struct Query;
@@ -31,7 +34,8 @@ impl View {
 }
 
 pub enum ConceptAnswer {
-    Accepted,
+    // With what the concept names.
+    Accepted(Named),
     BadShape,
     BadToken,
     BadPile,
@@ -44,7 +48,7 @@ impl ConceptAnswer {
         ensures { λ r. ⌜ r ≡ conceptNumber self ⌝ }
     {
         match self {
-            ConceptAnswer::Accepted => 0,
+            ConceptAnswer::Accepted(_) => 0,
             ConceptAnswer::BadShape => 3,
             ConceptAnswer::BadToken => 4,
             ConceptAnswer::BadPile => 5,
@@ -69,13 +73,10 @@ fn suits(s: Signature, token: Token, argument: usize) -> bool
     }
 }
 
-// Refusal 4 at token `i`.
-fn faulty_token(s: Signature, words: &[u16], i: usize) -> bool
-    requires { ⌜ i < 2 ^ 16 ⌝ }
-    ensures { λ r. ⌜ r ≡ faultyToken s (now (words .entry)) i ⌝ }
+// Refusal 4 for a token of this sort and argument.
+fn faulty_token(s: Signature, sort: usize, argument: usize) -> bool
+    ensures { λ r. ⌜ r ≡ (outside 1 9 sort || not (suitsIn s (tokenOf sort argument) argument)) ⌝ }
 {
-    let sort = left(concept_layout(), words, i);
-    let argument = right(concept_layout(), words, i);
     (sort < 1) | (9 < sort) | !suits(s, token_of(sort, argument), argument)
 }
 
@@ -87,31 +88,38 @@ fn bad_shape(words: &[u16]) -> bool
     (n < 1) | (MAX_TOKENS < n) | misshapen(concept_layout(), words)
 }
 
-fn check_concept(limit: usize, s: Signature, words: &[u16]) -> ConceptAnswer
+// Refusals 5 and 6, or what the concept names, from the scan of all its tokens. The record says that there are `steps` steps.
+fn answer(limit: usize, steps: usize, scan: Scan) -> ConceptAnswer
+    ensures { λ r. ⌜ r ≡ scanAnswer limit steps scan ⌝ }
+{
+    let pile = scan.pile;
+    if !pile.is_concept() {
+        return ConceptAnswer::BadPile;
+    }
+    if (scan.steps != steps) | (limit < scan.steps) {
+        return ConceptAnswer::BadSteps;
+    }
+    ConceptAnswer::Accepted(scan.named())
+}
+
+pub fn check_concept(limit: usize, s: Signature, words: &[u16]) -> ConceptAnswer
     ensures { λ r. ⌜ r ≡ conceptAnswer limit s (now (words .entry)) ⌝ }
 {
     if bad_shape(words) {
         return ConceptAnswer::BadShape;
     }
     let n = tokens(words);
-    let mut pile = EMPTY;
-    let mut steps = 0;
+    let mut scan = START;
     for i in 0..n {
-        if faulty_token(s, words, i) {
+        let sort = sort_at(words, i);
+        let argument = argument_at(words, i);
+        if faulty_token(s, sort, argument) {
             return ConceptAnswer::BadToken;
         }
-        let token = token_at(words, i);
-        let next = pile.push(token);
-        pile = next;
-        steps += is_step(token) as usize;
+        let next = scan.read(token_of(sort, argument));
+        scan = next;
     }
-    if !pile.is_concept() {
-        return ConceptAnswer::BadPile;
-    }
-    if (steps != word(words, 1)) | (limit < steps) {
-        return ConceptAnswer::BadSteps;
-    }
-    ConceptAnswer::Accepted
+    answer(limit, word(words, 1), scan)
 }
 
 pub fn check_query(s: Signature, words: &[u16]) -> ConceptAnswer

@@ -6,7 +6,7 @@ use crate::layout::right;
 ghost use mathlib.Core.Path.{_≡_};
 ghost use Prim.Native.Nat.{_<_, _^_};
 ghost use Rattle.records.specs.Helpers.Word.{IsWord, IsLayout};
-ghost use Rattle.records.specs.Layout.{entries as entriesOf, conceptLayout};
+ghost use Rattle.records.specs.Layout.{entries as entriesOf, leftAt, rightAt, conceptLayout};
 ghost use Rattle.records.specs.ConceptRecord.{tokenOf, tokenAt};
 ghost use Rattle.records.specs.ConceptRefusal.{isStep};
 
@@ -58,13 +58,25 @@ pub fn token_of(sort: usize, argument: usize) -> Token
     }
 }
 
+pub fn sort_at(words: &[u16], i: usize) -> usize
+    requires { ⌜ i < 2 ^ 16 ⌝ }
+    ensures { λ r. ⌜ r ≡ leftAt conceptLayout (now (words .entry)) i ⌝ }
+{
+    left(concept_layout(), words, i)
+}
+
+pub fn argument_at(words: &[u16], i: usize) -> usize
+    requires { ⌜ i < 2 ^ 16 ⌝ }
+    ensures { λ r. ⌜ r ≡ rightAt conceptLayout (now (words .entry)) i ⌝ }
+{
+    right(concept_layout(), words, i)
+}
+
 pub fn token_at(words: &[u16], i: usize) -> Token
     requires { ⌜ i < 2 ^ 16 ⌝ }
     ensures { λ r. ⌜ r ≡ tokenAt (now (words .entry)) i ⌝ }
 {
-    let l = left(concept_layout(), words, i);
-    let r = right(concept_layout(), words, i);
-    token_of(l, r)
+    token_of(sort_at(words, i), argument_at(words, i))
 }
 
 pub fn is_step(token: Token) -> bool

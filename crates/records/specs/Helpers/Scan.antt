@@ -1,16 +1,26 @@
--- What the checks keep while they scan a record, as plain functions: the pile's sorts, and the constants' objects.
+-- What the checks keep while they scan a record, as plain functions: the pile's sorts, the steps and names, and the constants'
+-- objects.
 -- Contracts of helper functions cite them. ConceptScanLaws and StateScanLaws of proofs/ tie them to the refusals.
 use Prim.Native.Nat.{ℕ, zero, suc, _+_, _-_, _*_, _/_, _%_}
 use mathlib.Core.List.{List}
 use mathlib.Core.Bool.{Bool, true, false, cond, not, _&&_, _||_}
 use lib.Dec.{eqb, ltb, leb}
+use lib.Bits.{bitOr}
+use lib.Count.{ones}
 use lib.ListN.{getD}
+use mir.Val.{boolByte}
 use Rattle.records.specs.declared.token.Token.{Token}
 use Rattle.records.specs.declared.token.Token.the-variants.{Class, Everything, Constant, Both, Empty, Forward, Backward, Reached, Common}
 use Rattle.records.specs.declared.sorts.Sorts.{Sorts}
-use Rattle.records.specs.Finite.{any}
+use Rattle.records.specs.declared.scan.Scan.{Scan}
+use Rattle.records.specs.declared.named.Named.{Named}
+use Rattle.records.specs.declared.concept.ConceptAnswer.{ConceptAnswer}
+use Rattle.records.specs.declared.concept.ConceptAnswer.the-variants as concept
+use Rattle.records.specs.Finite.{any, setOf}
 use Rattle.records.specs.State.{repeats}
-use Rattle.records.specs.Layout.{constantKinds, factKinds, maxConstants}
+use Rattle.records.specs.Layout.{maxClasses, maxAttributes, constantKinds, factKinds, maxConstants}
+use Rattle.records.specs.Named.{hasClass, hasAttribute}
+use Rattle.records.specs.ConceptRefusal.{isStep}
 use Rattle.records.specs.StateRefusal.{ascends}
 
 abbrev pub putSort : Sorts → ℕ → Sorts
@@ -42,6 +52,27 @@ pushSort t σ = cond (σ .ok) (pushOk t σ) σ
 
 abbrev pub isConceptSort : Sorts → Bool
 isConceptSort σ = σ .ok && eqb (σ .height) 1 && eqb (σ .bits) 0
+
+-- what is kept of the tokens passed, with one more
+abbrev pub readToken : Token → Scan → Scan
+readToken t σ =
+    record {
+      pile = pushSort t (σ .pile);
+      steps = σ .steps + boolByte (isStep t);
+      classes = bitOr (σ .classes) (setOf maxClasses λ A. hasClass A t);
+      attributes = bitOr (σ .attributes) (setOf maxAttributes λ P. hasAttribute P t);
+    }
+
+-- what they name
+abbrev pub namedBy : Scan → Named
+namedBy σ = record { classes = σ .classes; attributes = σ .attributes; count = ones (σ .classes) }
+
+-- what all tokens come to, where the record says that there are n steps
+abbrev pub scanAnswer : ℕ → ℕ → Scan → ConceptAnswer
+scanAnswer limit n σ =
+    cond (not (isConceptSort (σ .pile))) concept.BadPile
+    (cond (not (eqb (σ .steps) n) || ltb limit (σ .steps)) concept.BadSteps
+    (concept.Accepted (namedBy σ)))
 
 -- fact i is the first, or stands after the one before it
 unfoldable pub followsAt : List ℕ → ℕ → Bool

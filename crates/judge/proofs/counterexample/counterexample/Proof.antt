@@ -9,7 +9,7 @@ use Rattle.records.specs.SchemaRefusal.{AcceptedSchema}
 use Rattle.records.specs.ConceptRefusal.{AcceptedConcept}
 use Rattle.records.specs.StateRefusal.{AcceptedState}
 use Rattle.records.specs.Outcome.{schemaRefusal, queryRefusal, viewRefusal}
-use Rattle.records.proofs.OutcomeLaws.{refused-at, answered-at, schema-turned, concept-turned, state-turned, schema-signature, schema-passed, query-passed, view-passed, state-passed}
+use Rattle.records.proofs.OutcomeLaws.{refused-at, answered-at, schema-turned, concept-turned, state-turned, schema-signature, concept-known, schema-passed, query-passed, view-passed, state-passed}
 use Rattle.judge.specs.declared.counterexample.CounterexampleAnswer.the-variants.{Refused}
 use Rattle.judge.specs.Counterexample.{counterexampleRefusals}
 use Rattle.judge.proofs.counterexample.counterexample.Statement.{statement}
@@ -34,11 +34,11 @@ accepted-schema c =
 
 -- once the query is
 accepted-query : (c : tie.After-enum-told) → AcceptedConcept querySteps (signatureOf (S (c .before .before .before))) (Q (c .before .before .before))
-accepted-query c = rw (accepted-schema (c .before .before .before) .0) at (sym (c .before .before .check-query .ensures) ∙ c .enum-told .given .1)
+accepted-query c = rw (accepted-schema (c .before .before .before) .0) at (concept-known _ _ _ (c .before .before .check-query .ensures) (c .enum-told .given .1))
 
 -- once the view is
 accepted-view : (c : tie.After-enum-told2) → AcceptedConcept viewSteps (signatureOf (S (c .before .before .before .before .before .before))) (W (c .before .before .before .before .before .before))
-accepted-view c = rw (accepted-schema (c .before .before .before .before .before .before) .0) at (sym (c .before .before .check-view .ensures) ∙ c .enum-told2 .given .1)
+accepted-view c = rw (accepted-schema (c .before .before .before .before .before .before) .0) at (concept-known _ _ _ (c .before .before .check-view .ensures) (c .enum-told2 .given .1))
 
 -- once the state is
 abbrev known : tie.After-enum-told3 → tie.After-known-told
@@ -114,8 +114,8 @@ find-requires c κs =
     record {
       signature = z .0;
       schema-accepted = z .1;
-      query-accepted = sym (c .before .before .before .before .before .before .before .before .check-query .ensures) ∙ c .before .before .before .before .before .before .enum-told .given .1;
-      view-accepted = sym (c .before .before .before .before .before .check-view .ensures) ∙ c .before .before .before .enum-told2 .given .1;
+      query-accepted = concept-known _ _ _ (c .before .before .before .before .before .before .before .before .check-query .ensures) (c .before .before .before .before .before .before .enum-told .given .1);
+      view-accepted = concept-known _ _ _ (c .before .before .before .before .before .check-view .ensures) (c .before .before .before .enum-told2 .given .1);
       state-accepted = sym (c .before .before .check-state .ensures) ∙ c .enum-told3 .given .1;
     }
 

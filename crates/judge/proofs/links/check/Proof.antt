@@ -8,7 +8,7 @@ use Rattle.records.specs.SchemaRecord.{signatureOf}
 use Rattle.records.specs.SchemaRefusal.{AcceptedSchema}
 use Rattle.records.specs.ConceptRefusal.{AcceptedConcept}
 use Rattle.records.specs.Outcome.{schemaRefusal, queryRefusal, stateRefusal, attributeRefusal, firstRefusal}
-use Rattle.records.proofs.OutcomeLaws.{Passed, refused-at, refused-among, answered-among, schema-turned, concept-turned, schema-signature, schema-passed, query-passed}
+use Rattle.records.proofs.OutcomeLaws.{Passed, refused-at, refused-among, answered-among, schema-turned, concept-turned, schema-signature, concept-known, schema-passed, query-passed}
 use Rattle.judge.specs.declared.links.Checked.the-variants.{Accepted, Refused}
 use Rattle.judge.proofs.links.check.Statement.{statement}
 use Rattle.judge.proofs.links.check.Tie as tie
@@ -32,7 +32,7 @@ accepted-schema c =
 
 -- once the concept is
 accepted-concept : (c : tie.After-enum-told) → AcceptedConcept querySteps (signatureOf (S (c .before .before .before))) (C (c .before .before .before))
-accepted-concept c = rw (accepted-schema (c .before .before .before) .0) at (sym (c .before .before .check-query .ensures) ∙ c .enum-told .given .1)
+accepted-concept c = rw (accepted-schema (c .before .before .before) .0) at (concept-known _ _ _ (c .before .before .check-query .ensures) (c .enum-told .given .1))
 
 -- the number of the last two checks
 abbrev known : tie.After-first-refusal → tie.After-known-told

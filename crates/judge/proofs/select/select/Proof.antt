@@ -14,7 +14,7 @@ use Rattle.records.specs.ConceptRefusal.{AcceptedConcept}
 use Rattle.records.specs.StateRefusal.{AcceptedState}
 use Rattle.records.specs.Outcome.{schemaRefusal, queryRefusal, stateRefusal}
 use Rattle.records.proofs.AcceptedLaws.{passes-7, objects-few}
-use Rattle.records.proofs.OutcomeLaws.{refused-at, answered-at, schema-turned, concept-turned, state-turned, lent-turned, schema-signature, schema-passed, query-passed, state-passed, lent-passed}
+use Rattle.records.proofs.OutcomeLaws.{refused-at, answered-at, schema-turned, concept-turned, state-turned, lent-turned, schema-signature, concept-known, schema-passed, query-passed, state-passed, lent-passed}
 use Rattle.judge.specs.Select.{refusedWith, selectRefusals, selectOutcome, selection}
 use Rattle.judge.proofs.EvaluationLaws.{evaluable}
 use Rattle.judge.proofs.SelectLaws.{selection-is}
@@ -40,7 +40,7 @@ accepted-schema c =
 
 -- once the concept is
 accepted-concept : (c : tie.After-enum-told) → AcceptedConcept querySteps (signatureOf (S (c .before .before .before))) (C (c .before .before .before))
-accepted-concept c = rw (accepted-schema (c .before .before .before) .0) at (sym (c .before .before .check-query .ensures) ∙ c .enum-told .given .1)
+accepted-concept c = rw (accepted-schema (c .before .before .before) .0) at (concept-known _ _ _ (c .before .before .check-query .ensures) (c .enum-told .given .1))
 
 -- once the state is
 abbrev known : tie.After-enum-told2 → tie.After-known-told
@@ -116,7 +116,7 @@ returns-4 c =
 evaluate-requires : tie.Need-evaluate-requires
 evaluate-requires c κs =
     let e = c .before .before in
-    let read : AcceptedConcept querySteps (known e .before .checked .given .0 .0) (C (known e)) = sym (e .before .before .before .before .before .check-query .ensures) ∙ e .before .before .before .enum-told .given .1 in
+    let read : AcceptedConcept querySteps (known e .before .checked .given .0 .0) (C (known e)) = concept-known _ _ _ (e .before .before .before .before .before .check-query .ensures) (e .before .before .before .enum-told .given .1) in
     evaluable querySteps read (sym (e .before .before .check-state .ensures) ∙ e .enum-told2 .given .1)
 
 mark-requires : tie.Need-mark-requires

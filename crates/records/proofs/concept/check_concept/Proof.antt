@@ -1,24 +1,25 @@
--- The scan keeps the faults, the sorts and the steps of the tokens passed (Scanned of ConceptScanLaws).
-use Prim.Native.Nat.{_-_, _≤_, ℕ}
-use Rattle.records.proofs.General.BoolLaws.{byte-small}
-use Rattle.records.proofs.General.FiniteLaws.{any-of}
-use Rattle.records.proofs.RefusalLaws.{answer-3, answer-4, answer-5, answer-6, concept-accepted}
-use Rattle.records.proofs.AcceptedLaws.{tokens-few}
-use Rattle.records.proofs.ConceptScanLaws.{Scanned, scanned-4, scanned-5, scanned-6, scanned-few, scanned-more, scanned-none, scanned-room}
-use Rattle.records.specs.Layout.{conceptLayout, entries}
-use Rattle.records.specs.ConceptRefusal.{refusal-4, steps}
+-- The loop keeps the scan of the tokens passed (scanAfter of ConceptScanLaws), none of them faulty.
+use Prim.Native.Nat.{_-_, _≤_}
 use borrow.Author.Needs.{needs}
-use mathlib.Core.Path.{_∙_, subst, sym}
-use native.Mathlib.Omega.{arith}
+use mathlib.Core.Bool.{false}
+use mathlib.Core.Path.{_≡_, refl, sym, _∙_}
 use native.Mathlib.Nat.{le-antisymm}
+use native.Mathlib.Numerals.{add-one}
+use native.Mathlib.Omega.{arith}
+use Rattle.records.specs.Finite.{any}
+use Rattle.records.specs.ConceptRefusal.{faultyToken, refusal-4}
+use Rattle.records.proofs.General.FiniteLaws.{any-zero, any-of, any-still}
+use Rattle.records.proofs.RefusalLaws.{answer-3, answer-4}
+use Rattle.records.proofs.AcceptedLaws.{tokens-few}
+use Rattle.records.proofs.ConceptScanLaws.{token-of, fault-of, scanAfter, scan-room, scan-answer}
 use Rattle.records.proofs.concept.check_concept.Statement.{statement}
 use Rattle.records.proofs.concept.check_concept.Tie as tie
 
 abbrev Inv-loop : tie.InvT-loop
-Inv-loop limit s words n pile₀ steps₀ i₀ pile steps i = (i ≤ n) × Scanned s words i pile steps
+Inv-loop limit s words n scan₀ i₀ scan i = (i ≤ n) × (any i (faultyToken s words) ≡ false) × (scan ≡ scanAfter words i)
 
 abbrev μ-loop : tie.MeasureT-loop
-μ-loop limit s words n pile₀ steps₀ i₀ pile steps i = n - i
+μ-loop limit s words n scan₀ i₀ scan i = n - i
 
 bad-shape-requires : tie.Need-bad-shape-requires Inv-loop μ-loop
 bad-shape-requires c κs = tt
@@ -30,34 +31,36 @@ tokens-requires : tie.Need-tokens-requires Inv-loop μ-loop
 tokens-requires c κs = tt
 
 loop-holds : tie.Need-loop-holds Inv-loop μ-loop
-loop-holds c = (omega arith, scanned-none _ _)
+unfolding scanAfter
+loop-holds c = (omega arith, any-zero _, refl)
+
+sort-at-requires : tie.Need-sort-at-requires Inv-loop μ-loop
+sort-at-requires c κs = search needs
+
+argument-at-requires : tie.Need-argument-at-requires Inv-loop μ-loop
+argument-at-requires c κs = search needs
 
 faulty-token-requires : tie.Need-faulty-token-requires Inv-loop μ-loop
-faulty-token-requires c κs = search needs
+faulty-token-requires c κs = tt
+
+-- whether token i is faulty, as found
+fault : (c : tie.After-faulty-token Inv-loop μ-loop) → c .faulty-token .result ≡ faultyToken (c .before .before .before .before .before .before .before .before .before .args .s) (c .before .before .before .before .before .before .before .before .before .args .words .now) (c .before .before .before .before .loop .i)
+fault c = c .faulty-token .ensures ∙ fault-of _ _ (c .before .before .sort-at .ensures) (c .before .argument-at .ensures) _
 
 returns-2 : tie.Need-returns-2 Inv-loop μ-loop
 unfolding refusal-4
 returns-2 c =
-    answer-4 _ _ _ (sym (c .before .before .before .before .before .before .bad-shape .ensures) ∙ c .before .before .before .before .before .if1 .left)
-    (rw (← (c .before .before .before .before .tokens .ensures .value))
-    (any-of _ _ _ (c .before .before .loop-test .taken) (sym (c .before .faulty-token .ensures) ∙ c .if2 .taken)))
+    answer-4 _ _ _ (sym (c .before .before .before .before .before .before .before .before .bad-shape .ensures) ∙ c .before .before .before .before .before .before .before .if1 .left)
+    (rw (← (c .before .before .before .before .before .before .tokens .ensures .value)) (any-of _ _ _ (c .before .before .before .before .loop-test .taken) (sym (fault (c .before)) ∙ c .if2 .taken)))
 
-token-at-requires : tie.Need-token-at-requires Inv-loop μ-loop
-token-at-requires c κs = search needs
+token-of-requires : tie.Need-token-of-requires Inv-loop μ-loop
+token-of-requires c κs = tt
 
-push-requires : tie.Need-push-requires Inv-loop μ-loop
-push-requires c κs =
-    scanned-room _ _ (c .before .before .before .before .loop .inv .1)
-    (omega (arith, tokens-few (c .before .before .before .before .before .before .before .before .before .args .words .now) (sym (c .before .before .before .before .before .before .before .bad-shape .ensures) ∙ c .before .before .before .before .before .before .if1 .left), c .before .before .before .before .before .tokens .ensures .value))
-
-is-step-requires : tie.Need-is-step-requires Inv-loop μ-loop
-is-step-requires c κs = tt
-
-cast-steps : tie.Need-cast-steps Inv-loop μ-loop
-cast-steps c = tt
-
-add-steps : tie.Need-add-steps Inv-loop μ-loop
-add-steps c = omega (arith, scanned-few _ _ (c .before .before .before .before .before .before .loop .inv .1), byte-small (c .is-step .result))
+read-requires : tie.Need-read-requires Inv-loop μ-loop
+read-requires c κs =
+    let w = c .before .before .before .before .before .before .before .before .before .before .before .args .words .now in
+    let few = tokens-few w (sym (c .before .before .before .before .before .before .before .before .before .bad-shape .ensures) ∙ c .before .before .before .before .before .before .before .before .if1 .left) in
+    rw (c .before .before .before .before .before .before .loop .inv .2) (scan-room w (c .before .before .before .before .before .before .loop .i) (omega (arith, few, c .before .before .before .before .before .before .before .tokens .ensures .value)))
 
 add-i : tie.Need-add-i Inv-loop μ-loop
 add-i c = search needs
@@ -66,44 +69,25 @@ loop-less : tie.Need-loop-less Inv-loop μ-loop
 loop-less c = omega arith
 
 loop-again : tie.Need-loop-again Inv-loop μ-loop
-loop-again c = (
-  omega arith,
-  scanned-more _ _ (c .before .before .before .before .before .before .loop .inv .1) (sym (c .before .before .before .before .faulty-token .ensures) ∙ c .before .before .before .if2 .left) (c .before .push .result)
-      (rw (← (c .before .before .token-at .ensures)) (c .before .push .ensures)) (c .is-step .result)
-      (rw (← (c .before .before .token-at .ensures)) (c .is-step .ensures)),
-)
-
-is-concept-requires : tie.Need-is-concept-requires Inv-loop μ-loop
-is-concept-requires c κs = tt
-
-returns-3 : tie.Need-returns-3 Inv-loop μ-loop
-returns-3 c =
-    let z : Scanned (c .before .before .before .before .before .before .before .before .args .s) (c .before .before .before .before .before .before .before .before .args .words .now) (entries conceptLayout (c .before .before .before .before .before .before .before .before .args .words .now)) (c .before .before .before .loop .pile) (c .before .before .before .loop .steps) =
-    subst (λ (e : ℕ). Scanned (c .before .before .before .before .before .before .before .before .args .s) (c .before .before .before .before .before .before .before .before .args .words .now) e (c .before .before .before .loop .pile) (c .before .before .before .loop .steps))
-    (le-antisymm (c .before .before .before .loop .inv .0) (c .before .before .loop-test .left) ∙ c .before .before .before .before .tokens .ensures .value) (c .before .before .before .loop .inv .1)
-    in
-    answer-5 _ _ _ (sym (c .before .before .before .before .before .before .bad-shape .ensures) ∙ c .before .before .before .before .before .if1 .left) (scanned-4 _ _ z) (scanned-5 _ _ z ∙ rw (← (c .before .is-concept .ensures)) (c .if3 .taken))
+unfolding scanAfter
+loop-again c =
+    let token = c .before .token-of .ensures ∙ token-of _ _ (c .before .before .before .before .before .sort-at .ensures) (c .before .before .before .before .argument-at .ensures) in (
+      omega arith,
+      any-still _ _ (c .before .before .before .before .before .before .before .loop .inv .1) (sym (fault (c .before .before .before)) ∙ c .before .before .if2 .left),
+      rw (add-one (c .before .before .before .before .before .before .before .loop .i), ← token, ← (c .before .before .before .before .before .before .before .loop .inv .2)) (c .read .ensures),
+    )
 
 word-requires : tie.Need-word-requires Inv-loop μ-loop
 word-requires c κs = tt
 
-returns-4 : tie.Need-returns-4 Inv-loop μ-loop
-returns-4 c =
-    let z : Scanned (c .before .before .before .before .before .before .before .before .before .before .args .s) (c .before .before .before .before .before .before .before .before .before .before .args .words .now) (entries conceptLayout (c .before .before .before .before .before .before .before .before .before .before .args .words .now)) (c .before .before .before .before .before .loop .pile) (c .before .before .before .before .before .loop .steps) =
-    subst (λ (e : ℕ). Scanned (c .before .before .before .before .before .before .before .before .before .before .args .s) (c .before .before .before .before .before .before .before .before .before .before .args .words .now) e (c .before .before .before .before .before .loop .pile) (c .before .before .before .before .before .loop .steps))
-    (le-antisymm (c .before .before .before .before .before .loop .inv .0) (c .before .before .before .before .loop-test .left) ∙ c .before .before .before .before .before .before .tokens .ensures .value) (c .before .before .before .before .before .loop .inv .1)
-    in
-    answer-6 _ _ _ (sym (c .before .before .before .before .before .before .before .before .bad-shape .ensures) ∙ c .before .before .before .before .before .before .before .if1 .left) (scanned-4 _ _ z) (scanned-5 _ _ z ∙ rw (← (c .before .before .before .is-concept .ensures)) (c .before .before .if3 .left))
-    (scanned-6 _ _ z _ ∙ rw (← (c .before .word .ensures .value)) (c .if4 .taken))
+answer-requires : tie.Need-answer-requires Inv-loop μ-loop
+answer-requires c κs = tt
 
-returns-5 : tie.Need-returns-5 Inv-loop μ-loop
-returns-5 c =
-    let z : Scanned (c .before .before .before .before .before .before .before .before .before .before .args .s) (c .before .before .before .before .before .before .before .before .before .before .args .words .now) (entries conceptLayout (c .before .before .before .before .before .before .before .before .before .before .args .words .now)) (c .before .before .before .before .before .loop .pile) (c .before .before .before .before .before .loop .steps) =
-    subst (λ (e : ℕ). Scanned (c .before .before .before .before .before .before .before .before .before .before .args .s) (c .before .before .before .before .before .before .before .before .before .before .args .words .now) e (c .before .before .before .before .before .loop .pile) (c .before .before .before .before .before .loop .steps))
-    (le-antisymm (c .before .before .before .before .before .loop .inv .0) (c .before .before .before .before .loop-test .left) ∙ c .before .before .before .before .before .before .tokens .ensures .value) (c .before .before .before .before .before .loop .inv .1)
-    in
-    concept-accepted _ _ _ (sym (c .before .before .before .before .before .before .before .before .bad-shape .ensures) ∙ c .before .before .before .before .before .before .before .if1 .left) (scanned-4 _ _ z) (scanned-5 _ _ z ∙ rw (← (c .before .before .before .is-concept .ensures)) (c .before .before .if3 .left))
-    (scanned-6 _ _ z _ ∙ rw (← (c .before .word .ensures .value)) (c .if4 .left))
+returns-3 : tie.Need-returns-3 Inv-loop μ-loop
+returns-3 c =
+    c .answer .ensures
+    ∙ scan-answer _ _ _ (le-antisymm (c .before .before .before .loop .inv .0) (c .before .before .loop-test .left) ∙ c .before .before .before .before .tokens .ensures .value) (c .before .word .ensures .value)
+    (c .before .before .before .loop .inv .2) (sym (c .before .before .before .before .before .before .bad-shape .ensures) ∙ c .before .before .before .before .before .if1 .left) (c .before .before .before .loop .inv .1)
 
 pub check-concept-spec : {M : Type 1} → statement M
 check-concept-spec =
@@ -115,18 +99,15 @@ check-concept-spec =
     returns
     tokens-requires
     loop-holds
+    sort-at-requires
+    argument-at-requires
     faulty-token-requires
     returns-2
-    token-at-requires
-    push-requires
-    is-step-requires
-    cast-steps
-    add-steps
+    token-of-requires
+    read-requires
     add-i
     loop-less
     loop-again
-    is-concept-requires
-    returns-3
     word-requires
-    returns-4
-    returns-5)
+    answer-requires
+    returns-3)

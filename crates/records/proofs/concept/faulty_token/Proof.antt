@@ -1,21 +1,6 @@
--- The tests of the definition, on the words at the place.
-use Rattle.records.specs.ConceptRecord.{tokenAt}
-use Rattle.records.specs.ConceptRefusal.{faultyToken}
-use borrow.Author.Needs.{needs}
+-- The tests of the definition.
 use Rattle.records.proofs.concept.faulty_token.Statement.{statement}
 use Rattle.records.proofs.concept.faulty_token.Tie as tie
-
-concept-layout-requires : tie.Need-concept-layout-requires
-concept-layout-requires c κs = tt
-
-left-requires : tie.Need-left-requires
-left-requires c κs = search needs
-
-concept-layout-requires-2 : tie.Need-concept-layout-requires-2
-concept-layout-requires-2 c κs = tt
-
-right-requires : tie.Need-right-requires
-right-requires c κs = search needs
 
 token-of-requires : tie.Need-token-of-requires
 token-of-requires c κs = tt
@@ -24,17 +9,7 @@ suits-requires : tie.Need-suits-requires
 suits-requires c κs = tt
 
 returns : tie.Need-returns
-unfolding faultyToken tokenAt
 returns c = cc
 
 pub faulty-token-spec : {M : Type 1} → statement M
-faulty-token-spec =
-    tie.close
-    (tie.spec
-    concept-layout-requires
-    left-requires
-    concept-layout-requires-2
-    right-requires
-    token-of-requires
-    suits-requires
-    returns)
+faulty-token-spec = tie.close (tie.spec token-of-requires suits-requires returns)
