@@ -19,3 +19,5 @@ pub mod PutLaws
 pub mod WriteLaws
 -- The twelve small states of document 01.
 pub mod Examples
+-- What some concepts name.
+pub mod NamedExamples

@@ -16,10 +16,13 @@ use Rattle.records.specs.ConceptRecord.{tokenAt}
 use Rattle.records.specs.SchemaRefusal.{AcceptedSchema}
 use Rattle.records.specs.ConceptRefusal.{AcceptedConcept}
 use Rattle.records.specs.Helpers.InRange.{TokenInRange}
+use Rattle.records.specs.declared.check.CheckAnswer.the-variants.{Accepted, Refused}
+use Rattle.records.specs.Check.{checkRefusals, conceptCheck, CheckExact}
 use Rattle.records.specs.Named.{NamesClass, NamesAttribute, hasClass, hasAttribute, classNamed, attributeNamed, namedIn, NamedExactly}
 use Rattle.records.proofs.General.FiniteLaws.{any-iff}
 use Rattle.records.proofs.General.SetLaws.{set-iff, set-ones}
 use Rattle.records.proofs.AcceptedLaws.{token-in-range}
+use Rattle.records.proofs.OutcomeLaws.{first-passed, outcome-refused, outcome-answered, passed-schema, passed-concept}
 
 pub no-class : (t : declared.Token) → OneOf (1 ∷ 2 ∷ 3 ∷ 4 ∷ 5 ∷ 6 ∷ 7 ∷ 8 ∷ []) (tagOf Token.the-type t) → (A : ℕ) → hasClass A t ≡ false
 no-class (Class B) h A = absurd (miss (1 ∷ 2 ∷ 3 ∷ 4 ∷ 5 ∷ 6 ∷ 7 ∷ 8 ∷ []) 0 tt h)
@@ -74,7 +77,7 @@ module _ (schema : List ℕ) (fine : AcceptedSchema schema) (limit : ℕ) (w : L
       let inside = token-in-range schema fine limit w ok (z .0) (z .1) in
       ⊎-elim (λ q. subst TokenInRange q inside) (λ q. subst TokenInRange q inside) (z .2)
 
-  pub named-exact : NamedExactly w (namedIn w)
+  named-exact : NamedExactly w (namedIn w)
   unfolding namedIn classNamed attributeNamed
   named-exact =
       record {
@@ -82,3 +85,15 @@ module _ (schema : List ℕ) (fine : AcceptedSchema schema) (limit : ℕ) (w : L
         attributes = set-iff (attributeNamed w) (NamesAttribute w) maxAttributes (λ P. any-iff λ i. attribute-iff P (tokenAt w i)) attribute-below;
         number = sym (set-ones (classNamed w) maxClasses);
       }
+
+pub check-exact : (limit : ℕ) (schema w : List ℕ) → CheckExact limit schema w (conceptCheck limit schema w)
+check-exact limit schema w =
+    record {
+      refused = outcome-refused Refused (Accepted (namedIn w)) (checkRefusals limit schema w);
+      answered = λ z.
+          let passed = first-passed (checkRefusals limit schema w) z in (
+            namedIn w,
+            outcome-answered Refused (Accepted (namedIn w)) (checkRefusals limit schema w) z,
+            named-exact schema (passed-schema schema (passed .0)) limit w (passed-concept limit (signatureOf schema) w (passed .1 .0)),
+          );
+    }

@@ -20,6 +20,7 @@ pub mod SchemaRefusal
 pub mod ConceptRefusal
 pub mod StateRefusal
 pub mod Outcome
+pub mod Check
 -- The semantics as tests that compute: the judge's answers are functions of the words by these (its specs/Exact.antt says what
 -- they mean).
 pub mod Executable

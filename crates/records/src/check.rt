@@ -1,0 +1,42 @@
+// A concept checked by itself: what it names, or the number of the first refusal that applies. Arbitrary words are taken.
+use crate::concept::ConceptAnswer;
+use crate::concept::Query;
+use crate::concept::View;
+use crate::concept::check_concept;
+use crate::named::Named;
+use crate::schema::SchemaAnswer;
+use crate::schema::check_schema;
+ghost use mathlib.Core.Path.{_≡_};
+ghost use Rattle.records.specs.Check.{conceptCheck, queryCheck, viewCheck};
+
+pub enum CheckAnswer {
+    Accepted(Named),
+    // The number of the first refusal that applies.
+    Refused(u16),
+}
+
+fn check(limit: usize, schema: &[u16], concept: &[u16]) -> CheckAnswer
+    ensures { λ r. ⌜ r ≡ conceptCheck limit (now (schema .entry)) (now (concept .entry)) ⌝ }
+{
+    let checked = check_schema(schema);
+    let SchemaAnswer::Accepted(s) = checked else {
+        return CheckAnswer::Refused(checked.number());
+    };
+    let read = check_concept(limit, s, concept);
+    let ConceptAnswer::Accepted(named) = read else {
+        return CheckAnswer::Refused(read.number());
+    };
+    CheckAnswer::Accepted(named)
+}
+
+pub fn query(schema: &[u16], query: &[u16]) -> CheckAnswer
+    ensures { λ r. ⌜ r ≡ queryCheck (now (schema .entry)) (now (query .entry)) ⌝ }
+{
+    check(Query::STEPS, schema, query)
+}
+
+pub fn view(schema: &[u16], view: &[u16]) -> CheckAnswer
+    ensures { λ r. ⌜ r ≡ viewCheck (now (schema .entry)) (now (view .entry)) ⌝ }
+{
+    check(View::STEPS, schema, view)
+}
