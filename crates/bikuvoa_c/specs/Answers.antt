@@ -3,6 +3,9 @@
 use Prim.Native.Nat.{ℕ, suc, _^_, _<_}
 use mathlib.Core.List.{List}
 use mathlib.Core.Path.{_≡_}
+use Rattle.records.specs.declared.named.Named.{Named}
+use Rattle.records.specs.declared.check.CheckAnswer.{CheckAnswer}
+use Rattle.records.specs.declared.check.CheckAnswer.the-variants as check
 use Rattle.judge.specs.declared.select.SelectAnswer.{SelectAnswer}
 use Rattle.judge.specs.declared.select.SelectAnswer.the-variants as select
 use Rattle.judge.specs.declared.legal.LegalAnswer.{LegalAnswer}
@@ -17,6 +20,20 @@ use Rattle.decide.specs.declared.holds.HoldsAnswer.{HoldsAnswer}
 use Rattle.decide.specs.declared.holds.HoldsAnswer.the-variants as holds
 use Rattle.decide.specs.Decision.{Decision}
 use Rattle.decide.specs.Holding.{Holding}
+
+abbrev pub checkReturns : CheckAnswer → ℕ
+checkReturns (check.Accepted named) = 0
+checkReturns (check.Refused number) = number
+
+-- the class set, the attribute set, and how many classes are named
+abbrev pub checkWrites : CheckAnswer → Named → Named
+checkWrites (check.Accepted named) before = named
+checkWrites (check.Refused number) before = before
+
+-- what C gets of an answer of either check
+pub record CheckedTo (answer : CheckAnswer) (named : Named) (returned : ℕ) (named′ : Named) : Type 0 where
+  pub returns : returned ≡ checkReturns answer
+  pub writes : named′ ≡ checkWrites answer named
 
 abbrev pub selectReturns : SelectAnswer → ℕ
 selectReturns (select.Selected n) = 0
