@@ -1,6 +1,6 @@
-/* Bikuvoa: whether a query may be read from a stored view, and the judging of states.
+/* Bikuvoa: whether a query may be read from a stored view, the judging of states, and what a concept names.
  *
- * Seven functions over records of 16-bit words, in the machine's byte order, each record with its length in words. The format
+ * Nine functions over records of 16-bit words, in the machine's byte order, each record with its length in words. The format
  * is in docs/RECORDS.md; the builders below write it. Any words may be passed: each function returns 0, or the number of the
  * first refusal that applies (enum bikuvoa_refusal), and then no lent word and no out value is altered.
  *
@@ -12,7 +12,7 @@
  *
  * Memory. No heap; for the stack see BIKUVOA_STACK_BYTES.
  *
- * Proved, for any words (crates/bikuvoa_c): what each of the seven functions returns and writes, that it touches nothing else,
+ * Proved, for any words (crates/bikuvoa_c): what each of the nine functions returns and writes, that it touches nothing else,
  * and that it ends. Not proved: the stack, which is measured, and the inline functions of this header, which are tested.
  *
  * C89 with <stdint.h>, any later C, and C++. */
@@ -37,7 +37,7 @@ extern "C" {
 
 /* While the major version is 0, a new minor version may change the format of records. */
 #define BIKUVOA_VERSION_MAJOR 0
-#define BIKUVOA_VERSION_MINOR 3
+#define BIKUVOA_VERSION_MINOR 4
 #define BIKUVOA_VERSION_PATCH 0
 #define BIKUVOA_VERSION (BIKUVOA_VERSION_MAJOR * 10000 + BIKUVOA_VERSION_MINOR * 100 + BIKUVOA_VERSION_PATCH)
 
@@ -167,6 +167,17 @@ BIKUVOA_INLINE const char *bikuvoa_refusal_text(uint16_t refusal)
         return "a number that is no refusal";
     }
 }
+
+/* Checks a query by itself, and says what it names. In the class set *classes bit a (1u << a) is 1 exactly if some token is
+ * class a. In the attribute set *attributes bit p is 1 exactly if some step, forward or backward, is of attribute p. Higher
+ * bits are 0. *named is how many classes are named, each counted once. Only the query's own tokens count, and not what the
+ * axioms mention; constants are no names, and "everything" names nothing. */
+uint16_t bikuvoa_check_concept(const uint16_t *schema, size_t schema_words, const uint16_t *query, size_t query_words,
+                               uint32_t *classes, uint32_t *attributes, uint64_t *named);
+
+/* The same of a view: it may have BIKUVOA_VIEW_STEPS steps, where a query may have BIKUVOA_QUERY_STEPS. */
+uint16_t bikuvoa_check_view(const uint16_t *schema, size_t schema_words, const uint16_t *view, size_t view_words,
+                            uint32_t *classes, uint32_t *attributes, uint64_t *named);
 
 /* Which objects of the state the query selects: lent word i becomes 1 if object i is in it and 0 if not, for each of the N
  * objects; later words are unaltered. *selected is how many are. A view may stand in the query's place. Refused as

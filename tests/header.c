@@ -28,6 +28,7 @@ static void numbers(void)
                                    + BIKUVOA_MAX_CONSTANTS, "the most facts", 0);
     check(BIKUVOA_ATTRIBUTE_KINDS == 24 && BIKUVOA_CONSTANT_KINDS == 32 && BIKUVOA_FACT_KINDS == 36, "the kinds of facts", 0);
     check(BIKUVOA_MAX_OBJECTS <= BIKUVOA_OBJECT_PART && BIKUVOA_MAX_CLASSES <= BIKUVOA_BYTE_PART, "parts of words", 0);
+    check(BIKUVOA_MAX_CLASSES <= 32 && BIKUVOA_MAX_ATTRIBUTES <= 32, "a bit of a set for each", 0);
     check(BIKUVOA_RELATES == 5 && BIKUVOA_COMMON == 9 && BIKUVOA_BAD_ATTRIBUTE == 12, "the last of each list", 0);
     check(BIKUVOA_VERSION >= 100, "the version", 0);
 }
