@@ -1,7 +1,7 @@
 /* The entries, called from C through include/bikuvoa.h: document 01's twelve small states, a triple of each verdict, links
- * counted by hand, every refusal that each entry has, alone and with later faults beside it, records checked one at a time,
- * null pointers, states at the limits, and the deepest concepts on the documented stack. Not proved; it prints how many checks
- * passed. */
+ * counted by hand, what concepts name, every refusal that each entry has, alone and with later faults beside it, records
+ * checked one at a time, null pointers, states and concepts at the limits, and the deepest concepts on the documented stack.
+ * Not proved; it prints how many checks passed. */
 #define _DEFAULT_SOURCE
 #include "bikuvoa.h"
 #include <pthread.h>
@@ -11,6 +11,8 @@
 #include <sys/mman.h>
 
 #define UNTOUCHED 0xBEEF
+#define UNTOUCHED_SET UINT32_C(0xBEEFBEEF)
+#define UNTOUCHED_OUT UINT64_C(0xBEEFBEEFBEEFBEEF)
 
 static int passed;
 
@@ -88,6 +90,21 @@ static Record declaring(size_t classes, size_t attributes, size_t constants)
     return (Record){schema.length, schema.words};
 }
 
+/* Axioms of every kind, which mention every class and every attribute. */
+static Record mentioning_all(void)
+{
+    size_t words = BIKUVOA_SCHEMA_WORDS(24 + 4 * 8);
+    bikuvoa_schema schema = bikuvoa_start_schema(take(words), words, 24, 8, 4);
+    for (size_t a = 0; a < 24; a++) bikuvoa_subclass(&schema, a, 23 - a);
+    for (size_t p = 0; p < 8; p++) {
+        bikuvoa_typing(&schema, 0, p, 1);
+        bikuvoa_necessary(&schema, 2, p);
+        bikuvoa_single(&schema, 3, p);
+        bikuvoa_relates(&schema, p, 4, 5);
+    }
+    return (Record){schema.length, schema.words};
+}
+
 /* State S: two persons wear one strap, and the constant names the first of them. */
 static Record state_s(void)
 {
@@ -102,7 +119,7 @@ static Record state_s(void)
     return (Record){s.length, s.words};
 }
 
-static Record x, x_needs, no_axioms, one_attribute, s, no_objects, everything, person;
+static Record x, x_needs, no_axioms, one_attribute, all_declared, all_mentioned, s, no_objects, everything, person;
 
 /* A faulty record for each refusal of a schema, a concept and a state. */
 static Record bad_schemas[2], bad_concepts[4], bad_states[4];
@@ -113,6 +130,8 @@ static void make_records(void)
     x_needs = schema_x(1);
     no_axioms = declaring(0, 0, 0);
     one_attribute = declaring(0, 1, 0);
+    all_declared = declaring(24, 8, 4);
+    all_mentioned = mentioning_all();
     s = state_s();
     bikuvoa_state empty = bikuvoa_start_state(take(BIKUVOA_STATE_WORDS(0)), BIKUVOA_STATE_WORDS(0), 0);
     no_objects = (Record){empty.length, empty.words};
@@ -153,20 +172,30 @@ static void make_bad_records(void)
 /* A call of any entry, by the record at each place, or the number of lent words, or the attribute. */
 
 enum { SCHEMA, QUERY, VIEW, STATE, LENT, ATTRIBUTE, PLACES };
-enum { SELECT, LEGAL, COUNTEREXAMPLE, LINKS_BY_FIRST, LINKS_BY_SECOND, DECIDE, HOLDS, ENTRIES };
-static const int HAS[ENTRIES][PLACES] = {{1, 1, 0, 1, 1, 0}, {1, 0, 0, 1, 0, 0}, {1, 1, 1, 1, 0, 0}, {1, 1, 0, 1, 0, 1},
-                                         {1, 1, 0, 1, 0, 1}, {1, 1, 1, 0, 1, 0}, {1, 1, 1, 0, 0, 0}};
+enum { CHECK_CONCEPT, CHECK_VIEW, SELECT, LEGAL, COUNTEREXAMPLE, LINKS_BY_FIRST, LINKS_BY_SECOND, DECIDE, HOLDS, ENTRIES };
+static const int HAS[ENTRIES][PLACES] = {{1, 1, 0, 0, 0, 0}, {1, 0, 1, 0, 0, 0}, {1, 1, 0, 1, 1, 0}, {1, 0, 0, 1, 0, 0},
+                                         {1, 1, 1, 1, 0, 0}, {1, 1, 0, 1, 0, 1}, {1, 1, 0, 1, 0, 1}, {1, 1, 1, 0, 1, 0},
+                                         {1, 1, 1, 0, 0, 0}};
 
 #define ON(...) ((const Record[PLACES]){__VA_ARGS__})
 #define NONE {0, NULL}
 #define WORDS(n) {n, NULL}
 #define NUMBER(n) {n, NULL}
 
+/* The sets that the checks write, among words that they must not touch. */
+enum { CLASS_SET = 1, ATTRIBUTE_SET = 3, SETS = 5 };
+static uint32_t sets[SETS];
+
 static int call(int entry, const Record *r, uint16_t *words, uint64_t *outs)
 {
     Record schema = r[SCHEMA], query = r[QUERY], view = r[VIEW], state = r[STATE];
     uint16_t attribute = (uint16_t)r[ATTRIBUTE].words;
     switch (entry) {
+    case CHECK_CONCEPT:
+        return bikuvoa_check_concept(schema.at, schema.words, query.at, query.words, &sets[CLASS_SET], &sets[ATTRIBUTE_SET],
+                                     outs);
+    case CHECK_VIEW:
+        return bikuvoa_check_view(schema.at, schema.words, view.at, view.words, &sets[CLASS_SET], &sets[ATTRIBUTE_SET], outs);
     case SELECT:
         return bikuvoa_select(schema.at, schema.words, query.at, query.words, state.at, state.words, words, r[LENT].words,
                               outs);
@@ -200,6 +229,18 @@ static int untouched_from(size_t from)
     return from == BIKUVOA_DECIDE_WORDS + 1;
 }
 
+static void clear_sets(void)
+{
+    for (int i = 0; i < SETS; i++) sets[i] = UNTOUCHED_SET;
+}
+
+static int sets_are(uint32_t classes, uint32_t attributes)
+{
+    for (int i = 0; i < SETS; i += 2)
+        if (sets[i] != UNTOUCHED_SET) return 0;
+    return sets[CLASS_SET] == classes && sets[ATTRIBUTE_SET] == attributes;
+}
+
 /* Both counts of links are that number, or both calls are refused and alter nothing. */
 static void links(const Record *r, int returned, uint64_t count, const char *what, int row)
 {
@@ -208,6 +249,41 @@ static void links(const Record *r, int returned, uint64_t count, const char *wha
         check(call(entry, r, NULL, outs + 1) == returned && outs[1] == (returned ? UINT64_MAX : count), what, 10 * row + entry);
         check(outs[0] == 97 && outs[2] == 99, "beside the count of links", 10 * row + entry);
     }
+}
+
+typedef struct {
+    uint32_t classes, attributes;
+    uint64_t count;
+} Named;
+
+static const Named UNALTERED = {UNTOUCHED_SET, UNTOUCHED_SET, UNTOUCHED_OUT};
+
+/* What a check returns, and its out values then. */
+static void checked(int entry, const Record *r, int returned, Named then, const char *what, int row)
+{
+    uint64_t outs[3] = {97, UNTOUCHED_OUT, 99};
+    clear_sets();
+    check(call(entry, r, NULL, outs + 1) == returned, what, 10 * row + entry);
+    check(sets_are(then.classes, then.attributes) && outs[1] == then.count, what, 10 * row + entry);
+    check(outs[0] == 97 && outs[2] == 99, "beside the count of names", 10 * row + entry);
+}
+
+/* Both checks say that the concept names just this, whatever the axioms mention, but refuse it where it has too many steps. */
+static void names(Record concept, Named named, const char *what, int row)
+{
+    for (int entry = CHECK_CONCEPT; entry <= CHECK_VIEW; entry++) {
+        int most = entry == CHECK_VIEW ? 6 : 16, returned = concept.at[BIKUVOA_AT_STEPS] <= most ? 0 : BIKUVOA_BAD_STEPS;
+        Named then = returned ? UNALTERED : named;
+        checked(entry, ON(all_declared, concept, concept), returned, then, what, row);
+        checked(entry, ON(all_mentioned, concept, concept), returned, then, what, row);
+    }
+}
+
+/* Both checks refuse the concept with this number. */
+static void refused(Record schema, Record concept, int number, const char *what, int row)
+{
+    for (int entry = CHECK_CONCEPT; entry <= CHECK_VIEW; entry++)
+        checked(entry, ON(schema, concept, concept), number, UNALTERED, what, row);
 }
 
 /* The twelve states: the selections a to i, each with the links of wears, of which either person has one, and j, k, l. */
@@ -303,16 +379,18 @@ static Record record_at(int entry, int p, int faulty, int n)
 static void refusals(void)
 {
     clear_lent();
+    clear_sets();
     for (int entry = 0; entry < ENTRIES; entry++)
         for (int p = 0; p < PLACES; p++)
             for (int n = 0; HAS[entry][p] && n < NUMBERS[p]; n++)
                 for (int later = 0; later < 2; later++) {
                     Record r[PLACES];
                     for (int q = 0; q < PLACES; q++) r[q] = record_at(entry, q, q == p || (later && q > p), q == p ? n : 0);
-                    uint64_t outs[2] = {99, 98};
+                    uint64_t outs[2] = {UNTOUCHED_OUT, ~UNTOUCHED_OUT};
                     int row = 1000 * entry + 100 * p + 10 * n + later;
                     check(call(entry, r, lent, outs) == FIRST_NUMBER[p] + n, "refusal", row);
-                    check(outs[0] == 99 && outs[1] == 98, "an out value of a refused call", row);
+                    check(outs[0] == UNTOUCHED_OUT && outs[1] == ~UNTOUCHED_OUT, "an out value of a refused call", row);
+                    check(sets_are(UNTOUCHED_SET, UNTOUCHED_SET), "sets of a refused call", row);
                     check(untouched_from(0), "lent words of a refused call", row);
                 }
 }
@@ -321,8 +399,9 @@ static void refusals(void)
  * none are needed. */
 static void nulls(void)
 {
-    uint64_t outs[2] = {99, 98};
+    uint64_t outs[2] = {UNTOUCHED_OUT, ~UNTOUCHED_OUT};
     clear_lent();
+    clear_sets();
     for (int entry = 0; entry < ENTRIES; entry++)
         for (int p = 0; p < PLACES; p++) {
             if (!HAS[entry][p] || p == ATTRIBUTE) continue;
@@ -330,7 +409,8 @@ static void nulls(void)
             for (int q = 0; q < PLACES; q++) r[q] = record_at(entry, q, 0, 0);
             r[p] = (Record)NONE;
             check(call(entry, r, p == LENT ? NULL : lent, outs) == FIRST_NUMBER[p], "null", 10 * entry + p);
-            check(outs[0] == 99 && outs[1] == 98 && untouched_from(0), "null alters nothing", 10 * entry + p);
+            check(outs[0] == UNTOUCHED_OUT && outs[1] == ~UNTOUCHED_OUT && untouched_from(0)
+                      && sets_are(UNTOUCHED_SET, UNTOUCHED_SET), "null alters nothing", 10 * entry + p);
         }
     check(call(SELECT, ON(no_axioms, everything, NONE, no_objects, NONE), NULL, outs) == 0 && outs[0] == 0, "no lent words", 0);
 }
@@ -574,6 +654,191 @@ static void what_links_take(void)
     links(ON(x_needs, everything, NONE, s, NONE, NUMBER(WEARS)), 0, 2, "links of an illegal state", 0);
 }
 
+/* Names. */
+
+#define BIT(n) (1u << (n))
+
+static const struct {
+    Tokens tokens;
+    Named named;
+} NAMES[] = {
+    {TOKENS(EVERYTHING), {0, 0, 0}},
+    {TOKENS(EMPTY, REACHED), {0, 0, 0}},
+    {TOKENS(CLASS(5), CLASS(5), BOTH), {BIT(5), 0, 1}},
+    {TOKENS(CLASS(23), CLASS(0), BOTH, CLASS(23), BOTH), {BIT(0) | BIT(23), 0, 2}},
+    {TOKENS(CONSTANT(3), CLASS(2), BOTH, CONSTANT(1), BOTH), {BIT(2), 0, 1}},
+    {TOKENS(EMPTY, CLASS(9), FORWARD(5), REACHED), {BIT(9), BIT(5), 1}},
+    {TOKENS(EMPTY, CONSTANT(0), BACKWARD(7), REACHED), {0, BIT(7), 0}},
+    {TOKENS(EMPTY, CLASS(9), FORWARD(5), CLASS(23), BACKWARD(7), REACHED), {BIT(9) | BIT(23), BIT(5) | BIT(7), 2}},
+    {TOKENS(EMPTY, EMPTY, CLASS(11), BACKWARD(6), REACHED, FORWARD(1), REACHED), {BIT(11), BIT(1) | BIT(6), 1}},
+    {TOKENS(EMPTY, CLASS(3), FORWARD(0), EMPTY, CLASS(22), BACKWARD(7), COMMON), {BIT(3) | BIT(22), BIT(0) | BIT(7), 2}},
+    {TOKENS(CLASS(17), EMPTY, CLASS(17), FORWARD(4), CLASS(16), BACKWARD(4), EMPTY, COMMON, BOTH),
+     {BIT(16) | BIT(17), BIT(4), 2}},
+    {TOKENS(EMPTY, EVERYTHING, BACKWARD(2), REACHED, CLASS(2), BOTH, CONSTANT(2), BOTH), {BIT(2), BIT(2), 1}},
+};
+
+static void small_concepts(void)
+{
+    for (int row = 0; row < (int)(sizeof NAMES / sizeof *NAMES); row++)
+        names(concept_of(NAMES[row].tokens), NAMES[row].named, "names", row);
+    for (uint16_t k = 0; k < 4; k++) names(concept_of((Tokens)TOKENS(CONSTANT(k))), (Named){0, 0, 0}, "a constant", k);
+}
+
+/* Every one of these classes, and everything. */
+static Record classes_of(uint32_t set)
+{
+    static uint16_t words[BIKUVOA_MAX_CONCEPT_WORDS];
+    bikuvoa_concept c = bikuvoa_start_concept(words, BIKUVOA_MAX_CONCEPT_WORDS);
+    bikuvoa_everything(&c);
+    for (size_t a = 0; a < 24; a++) {
+        if (!(set & BIT(a))) continue;
+        bikuvoa_class(&c, a);
+        bikuvoa_both(&c);
+    }
+    return (Record){c.length, c.words};
+}
+
+/* Each class alone, beside each other, and left out. */
+static void class_sets(void)
+{
+    const uint32_t all = BIT(24) - 1;
+    for (uint16_t a = 0; a < 24; a++) {
+        names(concept_of((Tokens)TOKENS(CLASS(a))), (Named){BIT(a), 0, 1}, "one class", a);
+        names(classes_of(all & ~BIT(a)), (Named){all & ~BIT(a), 0, 23}, "all classes but one", a);
+        for (uint16_t b = 0; b < a; b++)
+            names(classes_of(BIT(a) | BIT(b)), (Named){BIT(a) | BIT(b), 0, 2}, "two classes", 100 * a + b);
+    }
+    names(classes_of(all), (Named){all, 0, 24}, "all classes", 0);
+}
+
+/* Each attribute alone, both ways, and after each. */
+static void attribute_sets(void)
+{
+    for (uint16_t p = 0; p < 8; p++) {
+        const Named alone = {0, BIT(p), 0};
+        names(concept_of((Tokens)TOKENS(EMPTY, EVERYTHING, FORWARD(p), REACHED)), alone, "forward", p);
+        names(concept_of((Tokens)TOKENS(EMPTY, EVERYTHING, BACKWARD(p), REACHED)), alone, "backward", p);
+        for (uint16_t q = 0; q < 8; q++) {
+            Record two = concept_of((Tokens)TOKENS(EMPTY, EVERYTHING, FORWARD(p), EVERYTHING, BACKWARD(q), REACHED));
+            names(two, (Named){0, BIT(p) | BIT(q), 0}, "forward and backward", 10 * p + q);
+        }
+    }
+}
+
+/* All classes, the first of them where steps land, and as many attributes as steps, from that one on. */
+static Record all_classes(size_t attribute, size_t steps)
+{
+    static uint16_t words[BIKUVOA_MAX_CONCEPT_WORDS];
+    bikuvoa_concept c = bikuvoa_start_concept(words, BIKUVOA_MAX_CONCEPT_WORDS);
+    bikuvoa_empty(&c);
+    for (size_t i = 0; i < steps; i++) {
+        bikuvoa_class(&c, i);
+        bikuvoa_token(&c, i % 2 ? BIKUVOA_BACKWARD : BIKUVOA_FORWARD, (attribute + i) % 8);
+    }
+    bikuvoa_reached(&c);
+    for (size_t a = steps; a < 24; a++) {
+        bikuvoa_class(&c, a);
+        bikuvoa_both(&c);
+    }
+    return (Record){c.length, c.words};
+}
+
+/* Up to a step more than a query may have. */
+static void steps_with_names(void)
+{
+    for (size_t steps = 0; steps <= 17; steps++) {
+        names(chain((int)steps), (Named){0, steps > 0, 0}, "steps of one attribute", (int)steps);
+        for (size_t p = 0; p < 8; p++) {
+            Named named = {BIT(24) - 1, 0, 24};
+            for (size_t i = 0; i < steps; i++) named.attributes |= BIT((p + i) % 8);
+            names(all_classes(p, steps), named, "all classes and some attributes", (int)(10 * steps + p));
+        }
+    }
+}
+
+/* So many tokens, every other one a class, in turn. */
+static Record long_concept(size_t tokens)
+{
+    static uint16_t words[BIKUVOA_CONCEPT_WORDS(BIKUVOA_MAX_TOKENS + 1)];
+    bikuvoa_concept c = bikuvoa_start_concept(words, sizeof words / sizeof *words);
+    if (tokens % 2) {
+        bikuvoa_everything(&c);
+    } else {
+        bikuvoa_empty(&c);
+        bikuvoa_reached(&c);
+    }
+    for (size_t i = 0; i < (tokens - 1) / 2; i++) {
+        bikuvoa_class(&c, i % 24);
+        bikuvoa_both(&c);
+    }
+    return (Record){c.length, c.words};
+}
+
+/* Every number of tokens, one too many, and every length that does not fit. */
+static void lengths(void)
+{
+    for (size_t tokens = 1; tokens <= 64; tokens++) {
+        size_t count = (tokens - 1) / 2 < 24 ? (tokens - 1) / 2 : 24;
+        names(long_concept(tokens), (Named){BIT(count) - 1, 0, count}, "tokens", (int)tokens);
+    }
+    refused(all_declared, long_concept(65), BIKUVOA_BAD_CONCEPT_SHAPE, "65 tokens", 0);
+    Record longest = long_concept(64);
+    for (size_t words = 0; words <= longest.words + 1; words++)
+        if (words != longest.words)
+            refused(all_declared, (Record){words, longest.at}, BIKUVOA_BAD_CONCEPT_SHAPE, "a length", (int)words);
+}
+
+/* Refused though a set of so many bits would have room, or though fewer bits of the number would be declared. */
+static void undeclared_names(void)
+{
+    static const uint16_t NUMBERS_PAST[] = {24, 31, 32, 55, 256, 65535};
+    for (uint16_t n = 0; n < 24; n++)
+        refused(declaring(n, 8, 4), concept_of((Tokens)TOKENS(CLASS(n))), BIKUVOA_BAD_TOKEN, "past the last class", n);
+    for (uint16_t n = 0; n < 8; n++) {
+        Record forward = concept_of((Tokens)TOKENS(EMPTY, EVERYTHING, FORWARD(n), REACHED));
+        Record backward = concept_of((Tokens)TOKENS(EMPTY, EVERYTHING, BACKWARD(n), REACHED));
+        refused(declaring(24, n, 4), forward, BIKUVOA_BAD_TOKEN, "forward past the last attribute", n);
+        refused(declaring(24, n, 4), backward, BIKUVOA_BAD_TOKEN, "backward past the last attribute", n);
+    }
+    for (size_t i = 0; i < sizeof NUMBERS_PAST / sizeof *NUMBERS_PAST; i++) {
+        uint16_t n = NUMBERS_PAST[i];
+        Record forward = concept_of((Tokens)TOKENS(EMPTY, EVERYTHING, FORWARD(n), REACHED));
+        refused(all_declared, concept_of((Tokens)TOKENS(CLASS(n))), BIKUVOA_BAD_TOKEN, "no class", n);
+        refused(all_declared, forward, BIKUVOA_BAD_TOKEN, "no attribute", n);
+    }
+}
+
+/* Sorts that are not in the table, also one that cut to a byte would be, and arguments where none is taken. */
+static const Tokens FAULTY[] = {
+    TOKENS({0, 0}), TOKENS({BIKUVOA_COMMON + 1, 0}), TOKENS({256 + BIKUVOA_CLASS, 0}), TOKENS({65535, 0}),
+    TOKENS({BIKUVOA_EVERYTHING, 1}), TOKENS({BIKUVOA_EMPTY, 1}, REACHED), TOKENS(EMPTY, {BIKUVOA_REACHED, 1}),
+    TOKENS(EVERYTHING, EVERYTHING, {BIKUVOA_BOTH, 1}), TOKENS(EMPTY, EMPTY, {BIKUVOA_COMMON, 1}),
+};
+
+static void faulty_tokens(void)
+{
+    for (int row = 0; row < (int)(sizeof FAULTY / sizeof *FAULTY); row++)
+        refused(all_declared, concept_of(FAULTY[row]), BIKUVOA_BAD_TOKEN, "a faulty token", row);
+}
+
+/* Every choice among six faults, bit n - 1 for refusal n: the lowest is returned. */
+static void several_faults(void)
+{
+    for (int faults = 1; faults < 64; faults++) {
+        uint16_t schema_words[BIKUVOA_SCHEMA_WORDS(1)], words[BIKUVOA_CONCEPT_WORDS(2)];
+        bikuvoa_schema schema = bikuvoa_start_schema(schema_words, BIKUVOA_SCHEMA_WORDS(1), 2, 0, 0);
+        bikuvoa_concept c = bikuvoa_start_concept(words, BIKUVOA_CONCEPT_WORDS(2));
+        int lowest = 1;
+        while (!(faults >> (lowest - 1) & 1)) lowest++;
+        bikuvoa_subclass(&schema, 0, faults & 2 ? 2 : 1);
+        if (faults & 16) bikuvoa_both(&c);
+        bikuvoa_class(&c, faults & 8 ? 2 : 1);
+        if (faults & 32) words[BIKUVOA_AT_STEPS] = 1;
+        refused((Record){schema.length - (faults & 1), schema_words}, (Record){c.length - (faults & 4 ? 1 : 0), words}, lowest,
+                "the first of several faults", faults);
+    }
+}
+
 /* The stack of a call. It runs on a painted one of twice the documented size, and what it took is up to the deepest byte that
  * has lost its paint; then on one of just that size, below which nothing can be touched: a call that takes more kills the
  * test. */
@@ -724,11 +989,12 @@ static Record limit_schema(void)
     return (Record){schema.length, schema.words};
 }
 
+/* What a call takes beside the thread's own start, which may be deeper than a small call. */
 static void measure(const Record *r, int row, size_t *most)
 {
     size_t own = stack_of(NO_ENTRY, r);
     for (int entry = 0; entry < ENTRIES; entry++) {
-        size_t bytes = stack_of(entry, r) - own;
+        size_t all = stack_of(entry, r), bytes = all > own ? all - own : 0;
         check(bytes <= BIKUVOA_STACK_BYTES, "the stack", 10 * row + entry);
         run_on_documented(entry, r);
         if (bytes > most[entry]) most[entry] = bytes;
@@ -753,10 +1019,11 @@ static void stacks(void)
         }
     }
     check(most_objects > 300, "a verdict that needs many objects", 0);
-    printf("stack, measured in KB: select %zu, legal %zu, counterexample %zu, links by first %zu, links by second %zu, "
-           "decide %zu, holds %zu; allowed %d\n",
-           most[SELECT] / 1024, most[LEGAL] / 1024, most[COUNTEREXAMPLE] / 1024, most[LINKS_BY_FIRST] / 1024,
-           most[LINKS_BY_SECOND] / 1024, most[DECIDE] / 1024, most[HOLDS] / 1024, BIKUVOA_STACK_BYTES / 1024);
+    printf("stack, measured in KB: check of a concept %zu, of a view %zu, select %zu, legal %zu, counterexample %zu, "
+           "links by first %zu, links by second %zu, decide %zu, holds %zu; allowed %d\n",
+           most[CHECK_CONCEPT] / 1024, most[CHECK_VIEW] / 1024, most[SELECT] / 1024, most[LEGAL] / 1024,
+           most[COUNTEREXAMPLE] / 1024, most[LINKS_BY_FIRST] / 1024, most[LINKS_BY_SECOND] / 1024, most[DECIDE] / 1024,
+           most[HOLDS] / 1024, BIKUVOA_STACK_BYTES / 1024);
 }
 
 int main(void)
@@ -776,6 +1043,14 @@ int main(void)
     link_kinds();
     undeclared_attributes();
     what_links_take();
+    small_concepts();
+    class_sets();
+    attribute_sets();
+    steps_with_names();
+    lengths();
+    undeclared_names();
+    faulty_tokens();
+    several_faults();
     stacks();
     printf("entries from C: %d checks passed\n", passed);
     return 0;
