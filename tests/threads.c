@@ -13,7 +13,7 @@
 #define OWN_FRAMES 65536
 
 enum { HELD, OPEN, REFUSED, DEEP, CASES };
-enum { SELECT, LEGAL, COUNTEREXAMPLE, LINKS_BY_FIRST, LINKS_BY_SECOND, DECIDE, HOLDS, ENTRIES };
+enum { CHECK_CONCEPT, CHECK_VIEW, SELECT, LEGAL, COUNTEREXAMPLE, LINKS_BY_FIRST, LINKS_BY_SECOND, DECIDE, HOLDS, ENTRIES };
 
 typedef struct {
     bikuvoa_concept query, view;
@@ -23,6 +23,7 @@ typedef struct {
 typedef struct {
     int returned;
     uint64_t outs[2];
+    uint32_t sets[2];
     uint16_t lent[BIKUVOA_DECIDE_WORDS];
 } Answer;
 
@@ -31,7 +32,8 @@ static Case cases[CASES];
 static Answer expected[CASES][ENTRIES];
 static pthread_barrier_t barrier;
 
-/* Class 0 needs attribute 0, which goes from class 1 to class 2: each object of 0 is in 1. No two states have as many links. */
+/* Class 0 needs attribute 0, which goes from class 1 to class 2: each object of 0 is in 1. No two states have as many links.
+ * The deepest query names two classes, any other concept one. */
 static void make_cases(void)
 {
     static uint16_t schema_words[BIKUVOA_SCHEMA_WORDS(2)], words[CASES][2][BIKUVOA_MAX_CONCEPT_WORDS];
@@ -60,6 +62,8 @@ static void make_cases(void)
     bikuvoa_class(&cases[REFUSED].view, 3);
     for (int i = 1; i < BIKUVOA_QUERY_STEPS; i++) bikuvoa_empty(&cases[DEEP].query);
     bikuvoa_class(&cases[DEEP].query, 1);
+    bikuvoa_class(&cases[DEEP].query, 2);
+    bikuvoa_both(&cases[DEEP].query);
     for (int i = 1; i < BIKUVOA_QUERY_STEPS; i++) {
         bikuvoa_forward(&cases[DEEP].query, 0);
         bikuvoa_empty(&cases[DEEP].query);
@@ -73,8 +77,13 @@ static void call(const Case *c, int entry, Answer *a)
     const bikuvoa_concept q = c->query, v = c->view;
     const bikuvoa_state s = c->state;
     for (int i = 0; i < BIKUVOA_DECIDE_WORDS; i++) a->lent[i] = UNTOUCHED;
-    a->outs[0] = a->outs[1] = 99;
-    if (entry == SELECT)
+    a->outs[0] = a->outs[1] = a->sets[0] = a->sets[1] = 99;
+    if (entry == CHECK_CONCEPT)
+        a->returned = bikuvoa_check_concept(schema.words, schema.length, q.words, q.length, &a->sets[0], &a->sets[1],
+                                            &a->outs[0]);
+    else if (entry == CHECK_VIEW)
+        a->returned = bikuvoa_check_view(schema.words, schema.length, v.words, v.length, &a->sets[0], &a->sets[1], &a->outs[0]);
+    else if (entry == SELECT)
         a->returned = bikuvoa_select(schema.words, schema.length, q.words, q.length, s.words, s.length, a->lent,
                                      BIKUVOA_DECIDE_WORDS, &a->outs[0]);
     else if (entry == LEGAL)
@@ -97,7 +106,13 @@ static void call(const Case *c, int entry, Answer *a)
 static int same(const Answer *a, const Answer *b)
 {
     return a->returned == b->returned && a->outs[0] == b->outs[0] && a->outs[1] == b->outs[1]
-           && memcmp(a->lent, b->lent, sizeof a->lent) == 0;
+           && a->sets[0] == b->sets[0] && a->sets[1] == b->sets[1] && memcmp(a->lent, b->lent, sizeof a->lent) == 0;
+}
+
+/* Whether a check left these as the class set, the attribute set and the count. */
+static int names(const Answer *a, const uint32_t *named)
+{
+    return a->sets[0] == named[0] && a->sets[1] == named[1] && a->outs[0] == named[2];
 }
 
 /* Returns its argument if an answer differs. Each thread begins at another place. */
@@ -119,6 +134,8 @@ static void *work(void *number)
 int main(void)
 {
     static const int NUMBERS[CASES] = {0, 0, BIKUVOA_BAD_TOKEN, 0};
+    static const uint32_t IN_QUERY[CASES][3] = {{1, 0, 1}, {2, 0, 1}, {2, 0, 1}, {2 + 4, 1, 2}};
+    static const uint32_t IN_VIEW[CASES][3] = {{2, 0, 1}, {1, 0, 1}, {99, 99, 99}, {1, 0, 1}};
     pthread_t threads[THREADS];
     int numbers[THREADS];
     pthread_attr_t attributes;
@@ -129,10 +146,13 @@ int main(void)
     for (int i = 0; i < CASES; i++) {
         const Answer *decide = &expected[i][DECIDE], *holds = &expected[i][HOLDS];
         const Answer *first = &expected[i][LINKS_BY_FIRST], *second = &expected[i][LINKS_BY_SECOND];
+        const Answer *query = &expected[i][CHECK_CONCEPT], *view = &expected[i][CHECK_VIEW];
         uint64_t links = i == HELD ? 0 : (uint64_t)i + 1;
         if (decide->returned != NUMBERS[i] || (decide->outs[0] == 0) != (i == HELD)) return 1;
         if (holds->returned != NUMBERS[i] || (holds->outs[0] == 1) != (i == HELD)) return 1;
         if (first->returned || first->outs[0] != links || second->returned || second->outs[0] != links) return 1;
+        if (query->returned || !names(query, IN_QUERY[i])) return 1;
+        if (view->returned != NUMBERS[i] || !names(view, IN_VIEW[i])) return 1;
     }
     if (pthread_barrier_init(&barrier, NULL, THREADS) || pthread_attr_init(&attributes)
         || pthread_attr_setstacksize(&attributes, BIKUVOA_STACK_BYTES + OWN_FRAMES)) return 1;
