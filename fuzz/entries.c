@@ -1,4 +1,4 @@
-/* A libFuzzer target over the seven entries. An input is read as records of arbitrary words, or as instructions for records
+/* A libFuzzer target over the nine entries. An input is read as records of arbitrary words, or as instructions for records
  * that are mostly accepted, which may then be damaged. Every record and all lent words end at a page that cannot be touched.
  * What the entries promise of each other is checked: see check_*.
  *
@@ -15,12 +15,14 @@
 
 #define UNTOUCHED_BYTE 0xBE
 #define UNTOUCHED 0xBEBE
-#define UNTOUCHED_OUT 0xBEBEBEBE
+#define UNTOUCHED_SET 0xBEBEBEBE
+#define UNTOUCHED_OUT 0xBEBEBEBEBEBEBEBE
 
 int LLVMFuzzerTestOneInput(const uint8_t *data, size_t size);
 
-/* How many calls of decide had each verdict, and how many counts of links were above 0, or refused for the attribute. */
-static unsigned long verdicts[4], linked, undeclared;
+/* How many calls of decide had each verdict, how many counts of links were above 0, or refused for the attribute, and how many
+ * checks found a class twice, or more steps than a view may have. */
+static unsigned long verdicts[4], linked, undeclared, repeated, many_steps;
 
 #define CHECK(ok) ((ok) ? (void)0 : fail(#ok, __LINE__))
 
@@ -112,6 +114,17 @@ static Words arbitrary(Input *in, int place)
 typedef struct {
     size_t classes, attributes, constants;
 } Declared;
+
+/* Mostly few, so that what is said of them meets; or any number up to the limits. */
+static Declared some_declared(Input *in)
+{
+    int few = byte(in) % 4 != 0;
+    Declared d;
+    d.classes = below(in, few ? 5 : BIKUVOA_MAX_CLASSES + 1);
+    d.attributes = below(in, few ? 4 : BIKUVOA_MAX_ATTRIBUTES + 1);
+    d.constants = below(in, few ? 3 : BIKUVOA_MAX_CONSTANTS + 1);
+    return d;
+}
 
 static Words built_schema(Input *in, Declared d)
 {
@@ -287,6 +300,52 @@ static uint16_t check_links(const Words *r, uint16_t attribute)
     return 0;
 }
 
+/* What the tokens of an accepted concept name: the sets, and how many classes. */
+static uint64_t named_in(Words concept, uint32_t *classes, uint32_t *attributes)
+{
+    size_t n = concept.at[BIKUVOA_AT_TOKENS];
+    uint64_t tokens = 0, count = 0;
+    *classes = *attributes = 0;
+    for (size_t i = BIKUVOA_CONCEPT_SIZES; i < BIKUVOA_CONCEPT_SIZES + n; i++) {
+        uint16_t sort = concept.at[i], argument = concept.at[i + n];
+        tokens += sort == BIKUVOA_CLASS;
+        if (sort == BIKUVOA_CLASS) *classes |= 1u << argument;
+        if (sort == BIKUVOA_FORWARD || sort == BIKUVOA_BACKWARD) *attributes |= 1u << argument;
+    }
+    for (size_t a = 0; a < BIKUVOA_MAX_CLASSES; a++) count += *classes >> a & 1;
+    repeated += count < tokens;
+    return count;
+}
+
+typedef uint16_t Check(const uint16_t *, size_t, const uint16_t *, size_t, uint32_t *, uint32_t *, uint64_t *);
+
+/* What a check writes is what a walk over the tokens finds. */
+static uint16_t check_names(const Words *r, Words concept, Check *by)
+{
+    uint32_t classes = UNTOUCHED_SET, attributes = UNTOUCHED_SET, class_set, attribute_set;
+    uint64_t named = UNTOUCHED_OUT;
+    uint16_t returned = by(r[SCHEMA].at, r[SCHEMA].words, concept.at, concept.words, &classes, &attributes, &named);
+    if (returned)
+        CHECK(classes == UNTOUCHED_SET && attributes == UNTOUCHED_SET && named == UNTOUCHED_OUT);
+    else
+        CHECK(named_in(concept, &class_set, &attribute_set) == named && classes == class_set && attributes == attribute_set);
+    return returned;
+}
+
+typedef struct {
+    uint16_t query, view;
+} Returned;
+
+/* What both checks return of a concept. They differ only where it has too many steps for a view. */
+static Returned check_concept(const Words *r, Words concept)
+{
+    Returned as = {check_names(r, concept, bikuvoa_check_concept), check_names(r, concept, bikuvoa_check_view)};
+    int many = as.query == 0 && concept.at[BIKUVOA_AT_STEPS] > BIKUVOA_VIEW_STEPS;
+    CHECK(as.view == (many ? BIKUVOA_BAD_STEPS : as.query));
+    if (many) many_steps++;
+    return as;
+}
+
 /* What decide has said, but for lent words, of which holds needs none. */
 static void check_holds(const Words *r, uint16_t decided, uint64_t objects)
 {
@@ -355,6 +414,7 @@ static void check_all(const Words *r, size_t select_room, uint16_t attribute, si
     CHECK(schema <= BIKUVOA_BAD_AXIOM && query <= BIKUVOA_BAD_STEPS && view <= BIKUVOA_BAD_STEPS);
     CHECK(!schema || (query == schema && view == schema && state == schema));
     CHECK(schema || state == 0 || (BIKUVOA_BAD_STATE_SHAPE <= state && state <= BIKUVOA_BAD_CONSTANTS));
+    CHECK(check_concept(r, r[QUERY]).query == query && check_concept(r, r[VIEW]).view == view);
     CHECK(selected(r, r[QUERY], r[STATE], select_room, in_query)
           == first(first(query, state), few_words(select_room, objects)));
     CHECK(check_counterexample(r, r[STATE], &found) == first(first(query, view), state));
@@ -379,7 +439,7 @@ int LLVMFuzzerTestOneInput(const uint8_t *data, size_t size)
     if (way % 8 < 2) {
         for (int place = SCHEMA; place <= STATE; place++) r[place] = arbitrary(&in, place);
     } else {
-        Declared d = {below(&in, 5), below(&in, 4), below(&in, 3)};
+        Declared d = some_declared(&in);
         r[SCHEMA] = built_schema(&in, d);
         r[QUERY] = built_concept(&in, d, QUERY, BIKUVOA_QUERY_STEPS);
         r[VIEW] = built_concept(&in, d, VIEW, BIKUVOA_VIEW_STEPS);
@@ -406,8 +466,10 @@ int main(int argc, char **argv)
         }
         LLVMFuzzerTestOneInput(data, sizeof data);
     }
-    printf("%ld inputs: held %lu, open %lu, refused %lu; links %lu, attribute not declared %lu\n", inputs,
-           verdicts[BIKUVOA_HELD], verdicts[BIKUVOA_OPEN], verdicts[BIKUVOA_REFUSED], linked, undeclared);
-    return verdicts[BIKUVOA_HELD] && verdicts[BIKUVOA_OPEN] && verdicts[BIKUVOA_REFUSED] && linked && undeclared ? 0 : 1;
+    printf("%ld inputs: held %lu, open %lu, refused %lu; links %lu, attribute not declared %lu; a class twice %lu, "
+           "too many steps for a view %lu\n", inputs, verdicts[BIKUVOA_HELD], verdicts[BIKUVOA_OPEN],
+           verdicts[BIKUVOA_REFUSED], linked, undeclared, repeated, many_steps);
+    return verdicts[BIKUVOA_HELD] && verdicts[BIKUVOA_OPEN] && verdicts[BIKUVOA_REFUSED] && linked && undeclared && repeated
+           && many_steps ? 0 : 1;
 }
 #endif
