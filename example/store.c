@@ -1,6 +1,6 @@
 /* A store that reads queries from stored lists. It keeps views, narrow ones first, each with the list of its objects. A query
  * is read from the first list that is sure to have all its objects, and filtered unless the list is sure to have no others.
- * At the end it counts who attends what. With target/staticlib built:
+ * At the end it counts who attends what, and shows what each view names. With target/staticlib built:
  *
  *   cc -Iinclude example/store.c target/staticlib/libbikuvoa_c.a -o store && ./store */
 #include "bikuvoa.h"
@@ -9,6 +9,8 @@
 
 enum { PERSON, ROWER, STRAP, SESSION, BEAT, CLASSES };
 enum { WEARS, RECORDS, DURING, ATTENDS, ATTRIBUTES };
+static const char *const CLASS_NAMES[] = {"Person", "Rower", "Strap", "Session", "Beat"};
+static const char *const ATTRIBUTE_NAMES[] = {"wears", "records", "during", "attends"};
 enum { AXIOMS = 10, TOKENS = 12, OBJECTS = 8, FACTS = 20, VIEWS = 3 };
 
 typedef struct {
@@ -189,6 +191,24 @@ static void count_attendances(const View *persons)
     printf("attendances: %d person by person, %d session by session\n", (int)by_person, (int)by_session);
 }
 
+static void print_names(uint32_t set, const char *const *names, size_t count)
+{
+    for (size_t i = 0; i < count; i++)
+        if (set >> i & 1) printf(" %s", names[i]);
+}
+
+/* The screen of a view lists the classes and attributes in it. */
+static void show(const View *view)
+{
+    uint32_t classes = 0, attributes = 0;
+    uint64_t named = 0;
+    bikuvoa_check_view(schema.words, schema.length, view->is.words, view->is.length, &classes, &attributes, &named);
+    printf("screen of %s:", view->name);
+    print_names(classes, CLASS_NAMES, CLASSES);
+    print_names(attributes, ATTRIBUTE_NAMES, ATTRIBUTES);
+    printf(" (%d of %d classes)\n", (int)named, CLASSES);
+}
+
 int main(void)
 {
     Query query;
@@ -225,5 +245,6 @@ int main(void)
     answer(&query);
 
     count_attendances(&views[2]);
+    for (const View *v = views; v < views + VIEWS; v++) show(v);
     return 0;
 }
