@@ -18,6 +18,7 @@ HEADER = (ROOT / "include" / "bikuvoa.h").read_text()
 SOURCE = {name: "".join((ROOT / "crates" / path).read_text() for path in paths.split()) for name, paths in {
     "schema": "records/src/schema.rt", "state": "records/src/state.rt",
     "concept": "records/src/token.rt records/src/sorts.rt records/src/concept.rt",
+    "named": "records/src/named.rt", "check": "records/src/check.rt",
     "select": "judge/src/select.rt", "legal": "judge/src/legal.rt", "counterexample": "judge/src/counterexample.rt",
     "links": "judge/src/links.rt", "decide": "decide/src/lib.rt", "holds": "decide/src/holds.rt"}.items()}
 held, faults = [], []
@@ -154,10 +155,22 @@ def facts(rows):
         past = last + 1
 
 
+def sets(rows):
+    width, = re.findall(r"A set is an unsigned number of (\d+) bits", " ".join(PAGE.split()))
+    hold("sets in the header", [row[0] for row in rows] * 2, re.findall(rf"uint{width}_t \*(\w+)", HEADER))
+    for (name, bits, naming), made in zip(rows, ("class_of", "attribute_of"), strict=True):
+        code = function("named", made)
+        hold(f"tokens that name {name}", naming.split(", "), [token.lower() for token in re.findall(r"Token::(\w+)\((?!_)", code)])
+        hold(f"bits of a set of {name}", {int(bits)}, {CODE[limit] for limit in re.findall(r"MAX_\w+", code)})
+    return [naming.split(", ") for *_, naming in rows]
+
+
 def looked_at(source, name):
-    """What a function checks, in order, with what it leaves to its file's `check` in that one's place."""
-    found = re.findall(r"(?<!fn )\bcheck\(|check_\w+|lent\.len|attribute_number|Refused\(\d+\)", function(source, name))
-    return [look for part in found for look in (looked_at(source, "check") if part == "check(" else [part])]
+    """What a function checks, in order, with what it leaves to its file's `check` in that one's place. The check of a query or of a
+    view is that of a concept, with its limit."""
+    found = re.findall(r"(?<!fn )\bcheck(?:\(|_\w+)|\w+::STEPS|lent\.len|attribute_number|Refused\(\d+\)", function(source, name))
+    left = {"check(": (source, "check"), **{f"check_{role}": ("concept", f"check_{role}") for role in ("query", "view")}}
+    return [look for part in found for look in (looked_at(*left[part]) if part in left else [part])]
 
 
 def refusals(rows, orders, lent):
@@ -173,9 +186,12 @@ def refusals(rows, orders, lent):
     hold("functions", [row[0] for row in orders], re.findall(r"^uint16_t bikuvoa_(\w+)\(", HEADER, re.M))
     hold("functions with lent words", [row[0] for row in lent], [entry for entry, text in orders if "lent words" in text])
     hold("refusals of an attribute", [*page["attribute"], 0], [value(n) for n in re.findall(r"{ (\d+) }", function("links", "attribute_number"))])
-    looks = {"lent words": ["lent.len", *(f"Refused({n})" for n in page["lent words"])], "attribute": ["attribute_number"]}
+    alone = [*page["schema"], *page["concept"]]
+    hold("refusals of a concept by itself", re.findall(r"refusals are (\d+) to (\d+)", PAGE), [(str(alone[0]), str(alone[-1]))])
+    looks = {"lent words": ["lent.len", *(f"Refused({n})" for n in page["lent words"])], "attribute": ["attribute_number"],
+             **{role: looked_at("concept", f"check_{role}") for role in ("query", "view")}}
     for entry, text in orders:
-        source, _, name = entry.partition("_")
+        source, _, name = entry.replace("check_concept", "check_query").partition("_")
         hold(f"checks of {entry}", [look for part in text.split(", ") for look in looks.get(part, [f"check_{part}"])],
              looked_at(source, name or entry))
 
@@ -233,7 +249,22 @@ class Names:
         return f"{x} is a {self.classes[kind]}" if kind < first else f"{x} {self.verb(kind - first)} {right}"
 
 
-def example(schema, query, view, state, sorts):
+def as_set(numbers):
+    """A set as the page writes it: its bits are added up where there are several."""
+    bits = [1 << n for n in numbers]
+    return f"{sum(bits)} = {' + '.join(map(str, bits))}" if len(bits) > 1 else str(sum(bits))
+
+
+def named(rows, names, naming, sorts):
+    for concept, *said in rows:
+        _, entries = split(stored(concept), "concept")
+        classes, attributes = (sorted({argument for sort, argument in entries if sorts[sort] in tokens}) for tokens in naming)
+        hold(f"what {concept}.bin names", said, [
+            ", ".join(names.classes[a] for a in classes), as_set(classes),
+            ", ".join(names.attributes[p] for p in attributes), as_set(attributes), str(len(classes))])
+
+
+def example(schema, query, view, state, sorts, naming, shown):
     record, meanings = spelled(schema, CODE["BYTE_PART"])
     names = Names(*meanings[:2])
     sizes, entries = split(record, "schema")
@@ -245,6 +276,7 @@ def example(schema, query, view, state, sorts):
         sizes, entries = split(record, "concept")
         hold(f"words of {name}.bin", record, stored(name))
         hold(f"meaning of {name}.bin", meanings[len(sizes):], [names.token(sorts, *entry) for entry in entries])
+    named(shown, names, naming, sorts)
     record, meanings = spelled(state, CODE["OBJECT_PART"])
     sizes, entries = split(record, "state")
     hold("meaning of the state", meanings[len(sizes):], [names.fact(*entry) for entry in entries])
@@ -290,11 +322,12 @@ def main():
     sorts = numbered(*page["sort, name"], "concept", "token_of", "faulty_token", "sort")
     tokens(*page["sort, name"])
     facts(*page["kinds, name"])
+    naming = sets(*page["set, bits"])
     lent, = page["function, least lent words"]
     refusals(*page["number, in the header"], *page["function, looks at, in this order"], lent)
     least = next(number(text) for entry, text, _ in lent if entry == "decide")
     hold("lent words of decide", least, CODE["STATE_WORDS"], C["DECIDE_WORDS"])
-    readme(*example(*page["word, value"], sorts), most, least)
+    readme(*example(*page["word, value"], sorts, naming, *page["concept, classes"]), most, least)
     print("\n".join(faults) if faults else f"records page: {len(held)} facts held to the code")
     return 1 if faults else 0
 
