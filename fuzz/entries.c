@@ -406,15 +406,13 @@ static void check_all(const Words *r, size_t select_room, uint16_t attribute, si
     uint8_t in_query[BIKUVOA_MAX_OBJECTS];
     uint64_t broken, found;
     uint16_t schema = bikuvoa_schema_refusal(r[SCHEMA].at, r[SCHEMA].words);
-    uint16_t query = bikuvoa_query_refusal(r[SCHEMA].at, r[SCHEMA].words, r[QUERY].at, r[QUERY].words);
-    uint16_t view = bikuvoa_view_refusal(r[SCHEMA].at, r[SCHEMA].words, r[VIEW].at, r[VIEW].words);
+    uint16_t query = check_concept(r, r[QUERY]).query, view = check_concept(r, r[VIEW]).view;
     uint16_t state = broken_axiom(r, r[STATE], &broken);
     size_t objects = state ? 0 : r[STATE].at[BIKUVOA_AT_OBJECTS];
     size_t attributes = schema ? 0 : r[SCHEMA].at[BIKUVOA_AT_ATTRIBUTES];
     CHECK(schema <= BIKUVOA_BAD_AXIOM && query <= BIKUVOA_BAD_STEPS && view <= BIKUVOA_BAD_STEPS);
     CHECK(!schema || (query == schema && view == schema && state == schema));
     CHECK(schema || state == 0 || (BIKUVOA_BAD_STATE_SHAPE <= state && state <= BIKUVOA_BAD_CONSTANTS));
-    CHECK(check_concept(r, r[QUERY]).query == query && check_concept(r, r[VIEW]).view == view);
     CHECK(selected(r, r[QUERY], r[STATE], select_room, in_query)
           == first(first(query, state), few_words(select_room, objects)));
     CHECK(check_counterexample(r, r[STATE], &found) == first(first(query, view), state));

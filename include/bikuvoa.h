@@ -519,36 +519,24 @@ BIKUVOA_INLINE size_t bikuvoa_fact_second(const uint16_t *state, size_t i)
 }
 
 /* One record at a time: the refusal that it gets in that place, or 0. A state's is what bikuvoa_legal returns. So after a
- * refusal of 3 to 6 the query is at fault if bikuvoa_query_refusal is not 0, and otherwise the view. They ask bikuvoa_decide
- * without lent words, which then only checks records, with "everything", which no schema refuses, for the rest. */
-BIKUVOA_INLINE uint16_t bikuvoa_first_refusal(const uint16_t *schema, size_t schema_words, const uint16_t *query,
-                                      size_t query_words, const uint16_t *view, size_t view_words)
-{
-    uint16_t lent = 0, refusal;
-    uint64_t objects = 0, object = 0;
-    refusal = bikuvoa_decide(schema, schema_words, query, query_words, view, view_words, &lent, 0, &objects, &object);
-    if (refusal == BIKUVOA_FEW_LENT_WORDS) return BIKUVOA_ACCEPTED;
-    return refusal;
-}
-
+ * refusal of 3 to 6 the query is at fault if bikuvoa_query_refusal is not 0, and otherwise the view. */
 BIKUVOA_INLINE uint16_t bikuvoa_query_refusal(const uint16_t *schema, size_t schema_words, const uint16_t *query,
                                             size_t query_words)
 {
-    uint16_t words[BIKUVOA_CONCEPT_WORDS(1)];
-    bikuvoa_concept view = bikuvoa_start_concept(words, BIKUVOA_CONCEPT_WORDS(1));
-    bikuvoa_everything(&view);
-    return bikuvoa_first_refusal(schema, schema_words, query, query_words, view.words, view.length);
+    uint32_t classes = 0, attributes = 0;
+    uint64_t named = 0;
+    return bikuvoa_check_concept(schema, schema_words, query, query_words, &classes, &attributes, &named);
 }
 
 BIKUVOA_INLINE uint16_t bikuvoa_view_refusal(const uint16_t *schema, size_t schema_words, const uint16_t *view,
                                            size_t view_words)
 {
-    uint16_t words[BIKUVOA_CONCEPT_WORDS(1)];
-    bikuvoa_concept query = bikuvoa_start_concept(words, BIKUVOA_CONCEPT_WORDS(1));
-    bikuvoa_everything(&query);
-    return bikuvoa_first_refusal(schema, schema_words, query.words, query.length, view, view_words);
+    uint32_t classes = 0, attributes = 0;
+    uint64_t named = 0;
+    return bikuvoa_check_view(schema, schema_words, view, view_words, &classes, &attributes, &named);
 }
 
+/* With "everything" as the query, which no schema refuses. */
 BIKUVOA_INLINE uint16_t bikuvoa_schema_refusal(const uint16_t *schema, size_t schema_words)
 {
     uint16_t words[BIKUVOA_CONCEPT_WORDS(1)];
