@@ -1,7 +1,8 @@
-//! The seven calls, on records of any words and on built ones.
+//! The nine calls, on records of any words and on built ones.
 
 use crate::concept::{Query, View};
 use crate::layout::{DECIDE_WORDS, MAX_OBJECTS, STATE};
+use crate::named::Named;
 use crate::raw;
 use crate::refusal::Refusal;
 use crate::schema::{Attribute, Schema};
@@ -38,6 +39,31 @@ pub enum Legality {
     Legal,
     /// The place of the first broken axiom in the schema, from 0.
     Broken(usize),
+}
+
+/// What the query names. It is checked by itself: neither a view nor a state is
+/// needed.
+pub fn check_concept(schema: &[u16], query: &[u16]) -> Result<Named, Refusal> {
+    named(|classes, attributes, count| {
+        raw::check_concept(schema, query, classes, attributes, count)
+    })
+}
+
+/// What the view names. It is checked by itself, like a query but for the steps:
+/// a view may have fewer.
+pub fn check_view(schema: &[u16], view: &[u16]) -> Result<Named, Refusal> {
+    named(|classes, attributes, count| raw::check_view(schema, view, classes, attributes, count))
+}
+
+fn named(check: impl FnOnce(&mut u32, &mut u32, &mut u64) -> u16) -> Result<Named, Refusal> {
+    let mut named = Named::default();
+    let returned = check(
+        &mut named.class_set,
+        &mut named.attribute_set,
+        &mut named.count,
+    );
+    Refusal::check(returned)?;
+    Ok(named)
 }
 
 /// The objects of the state that are in the query, ascending.
@@ -138,6 +164,16 @@ fn object(number: u64) -> Object {
 /// refused only if its numbers do not fit this one; otherwise it is read with
 /// this schema's numbers, and the answer is about something else.
 impl Schema {
+    /// What the query names.
+    pub fn check_concept(&self, query: &Query) -> Result<Named, Refusal> {
+        check_concept(self.words(), query.words())
+    }
+
+    /// What the view names, as a screen that shows the view lists it.
+    pub fn check_view(&self, view: &View) -> Result<Named, Refusal> {
+        check_view(self.words(), view.words())
+    }
+
     /// The objects of the state that are in the query, ascending. A view may be
     /// asked for as a query.
     pub fn select(&self, query: &Query, state: &State) -> Result<Vec<Object>, Refusal> {

@@ -23,6 +23,11 @@
 //! assert_eq!(schema.decide(&query, &view), Decision::Held);
 //! // The same without a state, where one is not to be looked at.
 //! assert_eq!(schema.holds(&query, &view), Ok(true));
+//!
+//! // The classes that the view names, for a screen that shows it.
+//! let named = schema.check_view(&view).expect("a view of this schema");
+//! let classes = named.classes().filter_map(|class| schema.class_name(class));
+//! assert!(classes.eq(["Person", "Strap"]));
 //! # Ok(())
 //! # }
 //! ```
@@ -43,11 +48,12 @@
 //!
 //! The library takes records of 16-bit words (docs/RECORDS.md).
 //! [`SchemaBuilder`], [`Query`], [`View`] and [`StateBuilder`] make records that
-//! it accepts; what cannot be is a [`BuildError`]. The functions [`select`],
-//! [`legal`], [`counterexample`], [`links_by_first`], [`links_by_second`],
-//! [`decide`] and [`holds`] take any words; a faulty record, or an attribute that
-//! is not declared, is a [`Refusal`]. [`raw`] has the calls as C has them, and
-//! [`layout`] the numbers of the format.
+//! it accepts; what cannot be is a [`BuildError`]. The functions
+//! [`check_concept`], [`check_view`], [`select`], [`legal`], [`counterexample`],
+//! [`links_by_first`], [`links_by_second`], [`decide`] and [`holds`] take any
+//! words; a faulty record, or an attribute that is not declared, is a [`Refusal`].
+//! [`raw`] has the nine calls as C has them, and [`layout`] the numbers of the
+//! format.
 //!
 //! # Linking
 //!
@@ -71,15 +77,17 @@ pub mod raw;
 mod calls;
 mod concept;
 mod error;
+mod named;
 mod refusal;
 mod schema;
 mod state;
 
-pub use calls::{counterexample, decide, holds, legal, links_by_first, links_by_second, select};
-pub use calls::{Decision, Legality};
+pub use calls::{check_concept, check_view, counterexample, decide, holds, legal, select};
+pub use calls::{links_by_first, links_by_second, Decision, Legality};
 pub use concept::{Concept, Path, Query, Token, View};
 pub use error::{BuildError, Item};
 pub use layout::Signature;
+pub use named::Named;
 pub use refusal::Refusal;
 pub use schema::{Attribute, Axiom, Class, Constant, Schema, SchemaBuilder};
 pub use state::{Fact, Object, State, StateBuilder};

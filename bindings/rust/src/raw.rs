@@ -1,10 +1,30 @@
-//! The seven functions as C has them (include/bikuvoa.h), on slices: any words
+//! The nine functions as C has them (include/bikuvoa.h), on slices: any words
 //! may be passed. Each returns 0, or the number of the first refusal that
 //! applies; a refused call alters no lent word and no out value.
 //!
 //! This is the one module with unsafe code.
 
 extern "C" {
+    fn bikuvoa_check_concept(
+        schema: *const u16,
+        schema_words: usize,
+        query: *const u16,
+        query_words: usize,
+        classes: *mut u32,
+        attributes: *mut u32,
+        named: *mut u64,
+    ) -> u16;
+
+    fn bikuvoa_check_view(
+        schema: *const u16,
+        schema_words: usize,
+        view: *const u16,
+        view_words: usize,
+        classes: *mut u32,
+        attributes: *mut u32,
+        named: *mut u64,
+    ) -> u16;
+
     fn bikuvoa_select(
         schema: *const u16,
         schema_words: usize,
@@ -86,6 +106,55 @@ extern "C" {
 /// Enough stack for any call. It is measured, not proved; a thread of the
 /// standard library has more unless it was made with less.
 pub const STACK_BYTES: usize = 512 * 1024;
+
+/// Checks a query by itself and tells what it names. `classes` becomes its class
+/// set: bit A, counted from the lowest, is 1 exactly if a token names class A.
+/// `attributes` becomes its attribute set, where bit P is 1 exactly if a step
+/// names attribute P. `named` becomes how many classes are named, each counted
+/// once.
+pub fn check_concept(
+    schema: &[u16],
+    query: &[u16],
+    classes: &mut u32,
+    attributes: &mut u32,
+    named: &mut u64,
+) -> u16 {
+    // SAFETY: as for `select`.
+    unsafe {
+        bikuvoa_check_concept(
+            schema.as_ptr(),
+            schema.len(),
+            query.as_ptr(),
+            query.len(),
+            classes,
+            attributes,
+            named,
+        )
+    }
+}
+
+/// The same as `check_concept`, of a view: refused as 6 if it has more steps than
+/// a view may have.
+pub fn check_view(
+    schema: &[u16],
+    view: &[u16],
+    classes: &mut u32,
+    attributes: &mut u32,
+    named: &mut u64,
+) -> u16 {
+    // SAFETY: as for `select`.
+    unsafe {
+        bikuvoa_check_view(
+            schema.as_ptr(),
+            schema.len(),
+            view.as_ptr(),
+            view.len(),
+            classes,
+            attributes,
+            named,
+        )
+    }
+}
 
 /// Lent word i becomes 1 if object i is in the query and 0 if not, for each
 /// object of the state; later words are unaltered. `selected` becomes how many

@@ -1,10 +1,11 @@
-//! The calls: the twelve small states, links counted by hand, refusals on raw
-//! words, and threads.
+//! The calls: the twelve small states, links and names counted by hand, refusals
+//! on raw words, and threads.
 
 use bikuvoa::layout::{self, axiom, fact, token, Signature};
-use bikuvoa::{counterexample, decide, holds, legal, links_by_first, links_by_second, raw, select};
-use bikuvoa::{Attribute, Class, Concept, Constant, Decision, Legality, Object, Path, Query};
-use bikuvoa::{Refusal, Schema, SchemaBuilder, State, StateBuilder, View};
+use bikuvoa::{check_concept, check_view, counterexample, decide, holds, legal, raw, select};
+use bikuvoa::{links_by_first, links_by_second};
+use bikuvoa::{Attribute, Class, Concept, Constant, Decision, Legality, Named, Object, Path};
+use bikuvoa::{Query, Refusal, Schema, SchemaBuilder, State, StateBuilder, View};
 
 const STRAP: Class = Class(0);
 const PERSON: Class = Class(1);
@@ -159,6 +160,79 @@ fn the_counts_of_links() {
     }
 }
 
+/// The axioms mention every class and attribute, and there are as many constants
+/// as classes: neither is named for that.
+#[test]
+fn the_names_in_concepts() {
+    const BOAT: Class = Class(2);
+    const LENDS: Attribute = Attribute(1);
+    let signature = Signature {
+        classes: 3,
+        attributes: 2,
+        constants: 3,
+    };
+    let mut builder = SchemaBuilder::numbered(signature).expect("few enough");
+    builder.relates(WEARS, PERSON, STRAP).expect("an axiom");
+    builder.typing(BOAT, LENDS, BOAT).expect("an axiom");
+    let schema = builder.build();
+
+    let (all, strap) = (Concept::everything(), Concept::class(STRAP));
+    let (person, boat) = (Concept::class(PERSON), Concept::class(BOAT));
+    let constant = Concept::constant(Constant(2));
+    let worn = Path::empty().forward(WEARS, all.clone());
+    let lent = Path::empty().backward(LENDS, strap.clone());
+    let there_and_back = worn.clone().backward(WEARS, constant.clone());
+    for (concept, class_set, attribute_set, count) in [
+        (all.clone(), 0b000, 0b00, 0),
+        (constant, 0b000, 0b00, 0),
+        (Concept::reached(Path::empty()), 0b000, 0b00, 0),
+        (boat.clone(), 0b100, 0b00, 1),
+        // A class that is named twice counts once.
+        (Concept::both(boat.clone(), boat.clone()), 0b100, 0b00, 1),
+        (Concept::both(boat.clone(), strap.clone()), 0b101, 0b00, 2),
+        (Concept::reached(worn), 0b000, 0b01, 0),
+        (Concept::reached(lent.clone()), 0b001, 0b10, 1),
+        (Concept::reached(there_and_back.clone()), 0b000, 0b01, 0),
+        (
+            Concept::common(there_and_back, lent.forward(LENDS, person.clone())),
+            0b011,
+            0b11,
+            2,
+        ),
+        (
+            Concept::both(Concept::both(person, boat), strap),
+            0b111,
+            0b00,
+            3,
+        ),
+    ] {
+        let named = Named {
+            class_set,
+            attribute_set,
+            count,
+        };
+        let query = Query::new(&schema, &concept).expect("a query");
+        assert_eq!(schema.check_concept(&query), Ok(named), "{concept:?}");
+        let view = View::new(&schema, &concept).expect("a view");
+        assert_eq!(schema.check_view(&view), Ok(named), "{concept:?}");
+    }
+}
+
+#[test]
+fn names_are_listed_ascending() {
+    let named = Named {
+        class_set: 0b1001 << 20 | 0b101,
+        attribute_set: 0b1000_0010,
+        count: 4,
+    };
+    let classes: Vec<Class> = named.classes().collect();
+    assert_eq!(classes, [0, 2, 20, 23].map(Class));
+    let attributes: Vec<Attribute> = named.attributes().collect();
+    assert_eq!(attributes, [1, 7].map(Attribute));
+    let nothing = Named::default();
+    assert_eq!(nothing.classes().count() + nothing.attributes().count(), 0);
+}
+
 /// A schema, a concept and a state that are accepted.
 struct Words {
     schema: Vec<u16>,
@@ -207,6 +281,9 @@ fn faulty_concepts() -> Vec<(u16, Vec<u16>)> {
         (3, cut(words().concept)),
         (4, layout::concept(&[token::class(STRAPS.classes)])),
         (4, layout::concept(&[(token::EVERYTHING.0, 1)])),
+        // Of several faults the one with the lowest number is told.
+        (4, layout::concept(&[token::BOTH, (token::BOTH.0, 1)])),
+        (5, layout::CONCEPT.record(&[0, 1], &[token::BOTH])),
         (5, layout::concept(&[token::BOTH])),
         (5, layout::concept(&[token::EVERYTHING, token::EVERYTHING])),
         (5, layout::concept(&[token::EMPTY])),
@@ -240,6 +317,14 @@ fn counted(schema: &[u16], query: &[u16], state: &[u16], attribute: u16) -> u16 
     by_first
 }
 
+/// What both checks are refused as.
+fn checked(schema: &[u16], concept: &[u16]) -> u16 {
+    let as_concept = number(check_concept(schema, concept));
+    let as_view = number(check_view(schema, concept));
+    assert_eq!(as_concept, as_view);
+    as_concept
+}
+
 fn decided(schema: &[u16], query: &[u16], view: &[u16]) -> u16 {
     match decide(schema, query, view) {
         Decision::Refused(refusal) => refusal.number(),
@@ -259,6 +344,7 @@ fn each_entry_refuses_each_faulty_record() {
         assert_eq!(number(legal(&faulty, &[])), expected);
         assert_eq!(number(counterexample(&faulty, &[], &[], &[])), expected);
         assert_eq!(counted(&faulty, &[], &[], u16::MAX), expected);
+        assert_eq!(checked(&faulty, &[]), expected);
         assert_eq!(decided(&faulty, &[], &[]), expected);
         assert_eq!(number(holds(&faulty, &[], &[])), expected);
         assert_eq!(number(Schema::from_words(faulty)), expected);
@@ -271,6 +357,7 @@ fn each_entry_refuses_each_faulty_record() {
         let as_view = counterexample(&schema, &concept, &faulty, &[]);
         assert_eq!(number(as_view), expected);
         assert_eq!(counted(&schema, &faulty, &[], u16::MAX), expected);
+        assert_eq!(checked(&schema, &faulty), expected);
         assert_eq!(decided(&schema, &faulty, &[]), expected);
         assert_eq!(decided(&schema, &concept, &faulty), expected);
         assert_eq!(number(holds(&schema, &faulty, &[])), expected);
@@ -292,6 +379,7 @@ fn each_entry_refuses_each_faulty_record() {
     }
     assert_eq!(number(select(&schema, &concept, &state)), 0);
     assert_eq!(counted(&schema, &concept, &state, WEARS.0), 0);
+    assert_eq!(checked(&schema, &concept), 0);
     assert_eq!(decided(&schema, &concept, &concept), 0);
     assert_eq!(number(holds(&schema, &concept, &concept)), 0);
 }
@@ -355,6 +443,28 @@ fn a_refused_call_alters_nothing() {
 }
 
 #[test]
+fn a_refused_check_alters_nothing() {
+    let Words {
+        schema, concept, ..
+    } = words();
+    for check in [raw::check_concept, raw::check_view] {
+        let (mut classes, mut attributes, mut named) = (97, 98, 99);
+        let mut check = |schema: &[u16], concept: &[u16]| {
+            let returned = check(schema, concept, &mut classes, &mut attributes, &mut named);
+            (returned, classes, attributes, named)
+        };
+        for (expected, faulty) in faulty_schemas() {
+            assert_eq!(check(&faulty, &concept), (expected, 97, 98, 99));
+        }
+        for (expected, faulty) in faulty_concepts() {
+            assert_eq!(check(&schema, &faulty), (expected, 97, 98, 99));
+        }
+        // "Everything" names nothing, and that is written too.
+        assert_eq!(check(&schema, &concept), (0, 0, 0, 0));
+    }
+}
+
+#[test]
 fn each_refusal_has_a_text() {
     let Words {
         schema,
@@ -405,13 +515,15 @@ fn a_record_of_another_schema_is_refused() {
     assert_eq!(number(other.counterexample(&all, &view, &state)), 4);
     assert_eq!(number(other.links_by_first(&query, &state, WEARS)), 4);
     assert_eq!(number(other.links_by_second(&all, &state, WEARS)), 8);
+    assert_eq!(number(other.check_concept(&query)), 4);
+    assert_eq!(number(other.check_view(&view)), 4);
     let decision = other.decide(&query, &view);
     assert!(matches!(decision, Decision::Refused(_)), "{decision:?}");
     assert_eq!(number(other.holds(&query, &view)), 4);
 }
 
 /// A thread with just the stack that is said to be enough decides a deep query
-/// of all the steps that there may be, and counts links.
+/// of all the steps that there may be, counts links, and tells what is named.
 #[test]
 fn the_stack_is_enough() {
     let schema = straps().build();
@@ -430,6 +542,8 @@ fn the_stack_is_enough() {
             assert_eq!(schema.holds(&query, &view), Ok(false));
             assert_eq!(schema.links_by_first(&query, &state, WEARS), Ok(0));
             assert_eq!(schema.links_by_second(&query, &state, WEARS), Ok(0));
+            let count = schema.check_concept(&query).map(|named| named.count);
+            assert_eq!(count, Ok(1));
         };
         let thread = small.spawn_scoped(scope, calls).expect("a thread");
         thread.join().expect("the answers");

@@ -4,7 +4,8 @@
 use bikuvoa::layout::{self, axiom, fact, token, Pair};
 use bikuvoa::layout::{DECIDE_WORDS, MAX_AXIOMS, MAX_FACTS, MAX_OBJECTS, MAX_TOKENS};
 use bikuvoa::layout::{MAX_ATTRIBUTES, MAX_CLASSES, MAX_CONSTANTS, QUERY_STEPS, VIEW_STEPS};
-use bikuvoa::{raw, Attribute, BuildError, Class, Concept, Constant, Item, Object, Path, Query};
+use bikuvoa::{check_concept, check_view, raw};
+use bikuvoa::{Attribute, BuildError, Class, Concept, Constant, Item, Named, Object, Path, Query};
 use bikuvoa::{Legality, Refusal, Schema, SchemaBuilder, Signature, State, StateBuilder, View};
 
 const LARGEST: Signature = Signature {
@@ -101,7 +102,9 @@ fn tokens() {
     assert_eq!(view, too_many(Item::Token, MAX_TOKENS));
     let entries: Vec<Pair> = odd.tokens().iter().map(|token| token.words()).collect();
     let words = layout::concept(&entries);
-    assert_eq!(refused_as(Query::from_words(&schema, words)), Some(3));
+    let (query, view) = (words.clone(), words);
+    assert_eq!(refused_as(Query::from_words(&schema, query)), Some(3));
+    assert_eq!(refused_as(View::from_words(&schema, view)), Some(3));
 }
 
 /// A path of so many steps.
@@ -138,6 +141,89 @@ fn steps() {
     assert_eq!(view, too_many(Item::Step, VIEW_STEPS));
     let view = View::from_words(&schema, step_words(VIEW_STEPS + 1));
     assert_eq!(refused_as(view), Some(6));
+}
+
+/// What is told of a concept that names just these.
+fn named(classes: &[u16], attributes: &[u16]) -> Named {
+    let set = |numbers: &[u16]| numbers.iter().map(|number| 1 << number).sum();
+    Named {
+        class_set: set(classes),
+        attribute_set: set(attributes),
+        count: classes.len() as u64,
+    }
+}
+
+/// Each class and each attribute by itself, and the first that is not declared.
+#[test]
+fn names() {
+    let schema = layout::schema(LARGEST, &[]);
+    for check in [check_concept, check_view] {
+        let of_class = |number| check(&schema, &layout::concept(&[token::class(number)]));
+        for class in 0..MAX_CLASSES {
+            assert_eq!(of_class(class), Ok(named(&[class], &[])));
+        }
+        assert_eq!(refused_as(of_class(MAX_CLASSES)), Some(4));
+        for step in [token::forward, token::backward] {
+            let of_attribute = |number| {
+                let landing = token::EVERYTHING;
+                let tokens = [token::EMPTY, landing, step(number), token::REACHED];
+                check(&schema, &layout::concept(&tokens))
+            };
+            for attribute in 0..MAX_ATTRIBUTES {
+                assert_eq!(of_attribute(attribute), Ok(named(&[], &[attribute])));
+            }
+            assert_eq!(refused_as(of_attribute(MAX_ATTRIBUTES)), Some(4));
+        }
+    }
+}
+
+#[test]
+fn steps_of_each_check() {
+    let schema = layout::schema(LARGEST, &[]);
+    let last = named(&[], &[MAX_ATTRIBUTES - 1]);
+    for steps in 1..=QUERY_STEPS + 1 {
+        let words = step_words(steps);
+        let within = |limit| {
+            if steps <= limit {
+                Ok(last)
+            } else {
+                Err(Refusal::BAD_STEPS)
+            }
+        };
+        assert_eq!(check_concept(&schema, &words), within(QUERY_STEPS));
+        assert_eq!(check_view(&schema, &words), within(VIEW_STEPS));
+    }
+}
+
+/// As many tokens as there may be, which name all classes, and all attributes as
+/// far as there are steps for them.
+#[test]
+fn all_names() {
+    let schema = largest();
+    let numbers: Vec<u16> = (0..MAX_CLASSES).collect();
+    let mut classes = numbers.iter().rev().cycle().map(|&number| Class(number));
+    for steps in [VIEW_STEPS, QUERY_STEPS] {
+        let mut leaf = || Concept::class(classes.next().expect("a circle of classes"));
+        let attributes = (0..MAX_ATTRIBUTES).cycle().take(steps);
+        let path = attributes.fold(Path::empty(), |path, number| {
+            path.forward(Attribute(number), leaf())
+        });
+        let mut concept = Concept::reached(path);
+        while concept.tokens().len() < MAX_TOKENS {
+            concept = Concept::both(concept, leaf());
+        }
+        assert_eq!(concept.tokens().len(), MAX_TOKENS);
+        let stepped = steps.min(MAX_ATTRIBUTES.into());
+        let expected = Ok(named(&numbers, &numbers[..stepped]));
+        let query = Query::new(&schema, &concept).expect("a query");
+        assert_eq!(schema.check_concept(&query), expected);
+        let as_view = check_view(schema.words(), query.words());
+        if steps == VIEW_STEPS {
+            assert_eq!(as_view, expected);
+        } else {
+            assert_eq!(refused_as(as_view), Some(6));
+        }
+    }
 }
 
 /// All objects in all classes and as their own values, and all constants.

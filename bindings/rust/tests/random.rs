@@ -2,9 +2,10 @@
 //! another way than by a refusal.
 
 use bikuvoa::layout::{MAX_ATTRIBUTES, MAX_CLASSES, MAX_CONSTANTS, QUERY_STEPS, VIEW_STEPS};
-use bikuvoa::{decide, holds, legal, links_by_first, links_by_second, select};
-use bikuvoa::{Attribute, Axiom, Class, Concept, Constant, Fact, Object, Path, Signature};
-use bikuvoa::{Decision, Legality, Query, Refusal, Schema, State, View};
+use bikuvoa::{check_concept, check_view, decide, holds, legal, select};
+use bikuvoa::{links_by_first, links_by_second};
+use bikuvoa::{Attribute, Axiom, Class, Concept, Constant, Fact, Object, Path, Signature, Token};
+use bikuvoa::{Decision, Legality, Named, Query, Refusal, Schema, State, View};
 use bikuvoa::{SchemaBuilder, StateBuilder};
 
 const DRAWS: usize = 2_000;
@@ -231,6 +232,56 @@ fn links_of_built_states_are_counted() {
     assert!(refused > DRAWS / 40, "{refused}");
 }
 
+/// What a concept names, by a walk over its tokens.
+fn walked(concept: &Concept) -> Named {
+    let mut named = Named::default();
+    for &token in concept.tokens() {
+        match token {
+            Token::Class(Class(number)) => {
+                let is_new = named.class_set & 1 << number == 0;
+                named.class_set |= 1 << number;
+                named.count += u64::from(is_new);
+            }
+            Token::Forward(Attribute(number)) | Token::Backward(Attribute(number)) => {
+                named.attribute_set |= 1 << number;
+            }
+            _ => {}
+        }
+    }
+    named
+}
+
+#[test]
+fn names_of_built_concepts_are_told() {
+    let mut random = Random(7);
+    let (mut queries, mut views, mut repeating, mut some) = (0, 0, 0, 0);
+    while queries < DRAWS {
+        let schema = random.schema();
+        let signature = schema.signature();
+        let depth = random.below(5);
+        let concept = random.concept(signature, depth);
+        let Ok(query) = Query::new(&schema, &concept) else {
+            continue;
+        };
+        let named = walked(&concept);
+        assert_eq!(schema.check_concept(&query), Ok(named));
+        let as_view = match View::new(&schema, &concept) {
+            Ok(_) => Ok(named),
+            Err(_) => Err(Refusal::BAD_STEPS),
+        };
+        assert_eq!(check_view(schema.words(), query.words()), as_view);
+        let is_class = |token: &&Token| matches!(token, Token::Class(_));
+        let mentions = concept.tokens().iter().filter(is_class).count();
+        queries += 1;
+        views += usize::from(as_view.is_ok());
+        repeating += usize::from(named.count < mentions as u64);
+        some += usize::from((1..signature.classes.into()).contains(&named.count));
+    }
+    let few = DRAWS / 20;
+    assert!(views > few && queries - views > few, "{views} views");
+    assert!(repeating > few && some > few, "{repeating}, {some}");
+}
+
 #[test]
 fn built_triples_are_decided() {
     let mut random = Random(4);
@@ -285,6 +336,9 @@ fn any_words_are_answered() {
         }
         assert!(legal(&schema, &one).err().is_none_or(in_range));
         let answer = holds(&schema, &one, &other);
+        // The two checks say what is wrong with the records of a triple.
+        let checked = check_concept(&schema, &one).and(check_view(&schema, &other));
+        assert_eq!(checked.err(), answer.err());
         if let Decision::Refused(refusal) = decide(&schema, &one, &other) {
             refused += 1;
             assert!(in_range(refusal));
