@@ -1,9 +1,9 @@
 //! Concepts and paths, and the queries and views made from them.
 
+use crate::calls::{check_concept, check_view};
 use crate::error::{BuildError, Item};
 use crate::layout::{self, token, Pair};
 use crate::layout::{CONCEPT, MAX_TOKENS, QUERY_STEPS, VIEW_STEPS};
-use crate::raw;
 use crate::refusal::Refusal;
 use crate::schema::{Attribute, Class, Constant, Schema};
 
@@ -172,9 +172,7 @@ impl Query {
 
     /// The query of a record, which the library checks.
     pub fn from_words(schema: &Schema, words: Vec<u16>) -> Result<Self, Refusal> {
-        // A state of no words is refused, but only after the concept is accepted.
-        let returned = raw::select(schema.words(), &words, &[], &mut [], &mut 0);
-        Refusal::check_before(Refusal::BAD_STATE_SHAPE, returned)?;
+        check_concept(schema.words(), &words)?;
         Ok(Query(words))
     }
 
@@ -200,10 +198,7 @@ impl View {
 
     /// The view of a record, which the library checks.
     pub fn from_words(schema: &Schema, words: Vec<u16>) -> Result<Self, Refusal> {
-        // To lend no words is refused, but only after the view is accepted.
-        let query = layout::concept(&[token::EVERYTHING]);
-        let returned = raw::decide(schema.words(), &query, &words, &mut [], &mut 0, &mut 0);
-        Refusal::check_before(Refusal::FEW_LENT_WORDS, returned)?;
+        check_view(schema.words(), &words)?;
         Ok(View(words))
     }
 
