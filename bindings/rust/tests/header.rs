@@ -1,5 +1,5 @@
-//! The version, the stack, and the numbers of the format and of the refusals are
-//! those of include/bikuvoa.h.
+//! The version, the stack, the numbers of the format and of the refusals, and the
+//! declarations of the functions are those of include/bikuvoa.h.
 
 use bikuvoa::layout::{self, axiom, fact, token, CONCEPT, SCHEMA, STATE};
 use bikuvoa::{raw, Refusal};
@@ -21,11 +21,20 @@ const REFUSALS: [(&str, Refusal); 12] = [
     ("BAD_ATTRIBUTE", Refusal::BAD_ATTRIBUTE),
 ];
 
+/// A file, by its path from this crate's folder.
+fn read(path: &str) -> String {
+    let folder = env!("CARGO_MANIFEST_DIR");
+    std::fs::read_to_string(format!("{folder}/{path}")).expect("a file")
+}
+
+fn header_text() -> String {
+    read("../../include/bikuvoa.h")
+}
+
 /// The macros and enumerators that are numbers or products of numbers, without
 /// their prefix.
 fn header() -> BTreeMap<String, usize> {
-    let path = concat!(env!("CARGO_MANIFEST_DIR"), "/../../include/bikuvoa.h");
-    let text = std::fs::read_to_string(path).expect("the header");
+    let text = header_text();
     let mut numbers = BTreeMap::new();
     for line in text.lines() {
         let line = line
@@ -103,8 +112,7 @@ fn the_version_is_the_headers() {
 
 #[test]
 fn the_texts_are_the_headers() {
-    let path = concat!(env!("CARGO_MANIFEST_DIR"), "/../../include/bikuvoa.h");
-    let header = std::fs::read_to_string(path).expect("the header");
+    let header = header_text();
     // Strings that stand on several lines are one, as for the compiler.
     let parts: Vec<&str> = header.split('"').collect();
     let mut joined = String::new();
@@ -118,4 +126,46 @@ fn the_texts_are_the_headers() {
         let (_, text) = said.split_once(": ").expect("a text after the number");
         assert!(joined.contains(text), "{text}");
     }
+}
+
+/// The parameters of each function that a text declares with these words before
+/// its name and after its parameters.
+fn declared(text: &str, before: &str, after: &str) -> BTreeMap<String, Vec<String>> {
+    let functions = text.split(before).skip(1);
+    let functions = functions.filter_map(|text| text.split_once(after)?.0.split_once('('));
+    let functions = functions.map(|(name, parameters)| {
+        let parameters = parameters.split(',').map(str::trim);
+        let parameters = parameters.filter(|parameter| !parameter.is_empty());
+        (name.to_string(), parameters.map(str::to_string).collect())
+    });
+    functions.collect()
+}
+
+/// A parameter of C as Rust declares it.
+fn in_rust(parameter: &String) -> String {
+    let (c_type, name) = parameter.rsplit_once(' ').expect("a type and a name");
+    let (pointer, number) = match (c_type.strip_prefix("const "), name.starts_with('*')) {
+        (Some(number), _) => ("*const ", number),
+        (None, true) => ("*mut ", c_type),
+        (None, false) => ("", c_type),
+    };
+    let number = match number {
+        "uint16_t" => "u16",
+        "uint32_t" => "u32",
+        "uint64_t" => "u64",
+        "size_t" => "usize",
+        other => panic!("{other} in {parameter}"),
+    };
+    format!("{}: {pointer}{number}", name.trim_start_matches('*'))
+}
+
+#[test]
+fn the_functions_are_the_headers() {
+    let mut header = declared(&header_text(), "\nuint16_t bikuvoa_", ");");
+    for parameters in header.values_mut() {
+        *parameters = parameters.iter().map(in_rust).collect();
+    }
+    let raw = declared(&read("src/raw.rs"), "\n    fn bikuvoa_", ") -> u16;");
+    assert_eq!(raw, header);
+    assert_eq!(raw.len(), 9, "{:?}", raw.keys());
 }
