@@ -3,6 +3,7 @@
 //! number of the refusal, and a refused call changes nothing.
 
 use crate::calculus::{self, Verdict};
+use crate::names::{self, Named};
 use crate::records::{self, QUERY_STEPS, VIEW_STEPS};
 use crate::semantics;
 use crate::syntax::{Concept, Schema, State};
@@ -22,6 +23,20 @@ pub enum Legality {
 pub enum Counterexample {
     No,
     Yes(u16),
+}
+
+/// Checks a concept by itself, as a query, and tells what it names.
+pub fn check_concept(schema: &[u16], concept: &[u16]) -> Result<Named, u16> {
+    let schema = records::schema(schema)?;
+    let concept = records::concept(concept, &schema, QUERY_STEPS)?;
+    Ok(names::named(&concept))
+}
+
+/// The same of a view.
+pub fn check_view(schema: &[u16], view: &[u16]) -> Result<Named, u16> {
+    let schema = records::schema(schema)?;
+    let view = records::concept(view, &schema, VIEW_STEPS)?;
+    Ok(names::named(&view))
 }
 
 /// Marks the selected objects in the lent words and counts them.

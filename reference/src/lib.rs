@@ -1,4 +1,5 @@
-//! An independent reference for the checks, the set semantics and the verdicts.
+//! An independent reference for the checks, the names in concepts, the set
+//! semantics and the verdicts.
 //!
 //! `entries` is what a comparison calls. Verdicts come from the calculus of
 //! report RR-93-44; states are judged by table 1 of the same report.
@@ -7,6 +8,7 @@
 
 pub mod calculus;
 pub mod entries;
+pub mod names;
 pub mod records;
 pub mod semantics;
 pub mod syntax;

@@ -4,7 +4,7 @@
 use super::entries;
 use crate::syntax::{Concept, Direction, Path, Role, Schema, Step};
 
-/// The step limit of a query, and of the concept of a selection.
+/// The step limit of a query, and of a concept in its place.
 pub const QUERY_STEPS: u16 = 16;
 /// The step limit of a view.
 pub const VIEW_STEPS: u16 = 6;

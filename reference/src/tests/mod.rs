@@ -7,6 +7,7 @@ mod canonical;
 mod concept_refusals;
 mod lent_words;
 mod links;
+mod names;
 mod order_of_checks;
 mod patient;
 mod pointwise;

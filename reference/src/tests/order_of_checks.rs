@@ -2,8 +2,8 @@
 
 use super::write::{axioms_record, record};
 use crate::calculus::Verdict;
-use crate::entries::{counterexample, decide, holds, legal, select, Counterexample};
-use crate::entries::{links_by_first, links_by_second};
+use crate::entries::{check_concept, check_view, counterexample, decide, holds, legal, select};
+use crate::entries::{links_by_first, links_by_second, Counterexample};
 
 const CLASS: [u16; 4] = [1, 0, 1, 0];
 const EVERYTHING: [u16; 4] = [1, 0, 2, 0];
@@ -29,6 +29,11 @@ fn state() -> Vec<u16> {
 
 #[test]
 fn the_schema_comes_first() {
+    for check in [check_concept, check_view] {
+        assert_eq!(check(&[], &[]), Err(1));
+        assert_eq!(check(&bad_axiom(), &[]), Err(2));
+        assert_eq!(check(&bad_axiom(), &BAD_STEPS), Err(2));
+    }
     assert_eq!(select(&[], &[], &[], &mut []), Err(1));
     assert_eq!(select(&bad_axiom(), &[], &[], &mut []), Err(2));
     assert_eq!(legal(&bad_axiom(), &[]), Err(2));
@@ -40,6 +45,19 @@ fn the_schema_comes_first() {
     assert_eq!(decide(&bad_axiom(), &[], &[], 0), Err(2));
     assert_eq!(holds(&[], &[], &[]), Err(1));
     assert_eq!(holds(&bad_axiom(), &[], &[]), Err(2));
+}
+
+/// Each refusal is looked for before the next: a record with several faults.
+#[test]
+fn the_concept_is_checked_by_itself() {
+    for check in [check_concept, check_view] {
+        assert_eq!(check(&schema(), &[]), Err(3));
+        assert_eq!(check(&schema(), &[1, 1, 1, 1, 5]), Err(3));
+        assert_eq!(check(&schema(), &[1, 1, 1, 1]), Err(4));
+        assert_eq!(check(&schema(), &[1, 1, 5, 0]), Err(5));
+        assert_eq!(check(&schema(), &[1, 1, 1, 0]), Err(6));
+        assert!(check(&schema(), &CLASS).is_ok());
+    }
 }
 
 #[test]
