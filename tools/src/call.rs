@@ -4,6 +4,8 @@ use bikuvoa::layout::{Layout, CONCEPT, DECIDE_WORDS, SCHEMA, STATE};
 
 #[derive(Clone, Copy, Debug, PartialEq, Eq)]
 pub enum Entry {
+    CheckConcept,
+    CheckView,
     Select,
     Legal,
     Counterexample,
@@ -25,7 +27,9 @@ pub enum Place {
 }
 
 impl Entry {
-    pub const ALL: [Entry; 7] = [
+    pub const ALL: [Entry; 9] = [
+        Entry::CheckConcept,
+        Entry::CheckView,
         Entry::Select,
         Entry::Legal,
         Entry::Counterexample,
@@ -35,12 +39,17 @@ impl Entry {
         Entry::Holds,
     ];
 
+    /// Those that check a concept by itself and tell what it names.
+    pub const CHECKS: [Entry; 2] = [Entry::CheckConcept, Entry::CheckView];
+
     /// Those that count links, which take an attribute.
     pub const LINKS: [Entry; 2] = [Entry::LinksByFirst, Entry::LinksBySecond];
 
     pub fn places(self) -> &'static [Place] {
         use Place::{Attribute, Lent, Query, Schema, State, View};
         match self {
+            Entry::CheckConcept => &[Schema, Query],
+            Entry::CheckView => &[Schema, View],
             Entry::Select => &[Schema, Query, State, Lent],
             Entry::Legal => &[Schema, State],
             Entry::Counterexample => &[Schema, Query, View, State],
@@ -55,6 +64,7 @@ impl Entry {
         match self {
             Entry::Select => objects,
             Entry::Decide => DECIDE_WORDS,
+            Entry::CheckConcept | Entry::CheckView => 0,
             Entry::Legal | Entry::Counterexample | Entry::Holds => 0,
             Entry::LinksByFirst | Entry::LinksBySecond => 0,
         }
@@ -62,6 +72,8 @@ impl Entry {
 
     pub fn name(self) -> &'static str {
         match self {
+            Entry::CheckConcept => "check_concept",
+            Entry::CheckView => "check_view",
             Entry::Select => "select",
             Entry::Legal => "legal",
             Entry::Counterexample => "counterexample",
@@ -97,9 +109,9 @@ impl Place {
     }
 }
 
-/// A call; what its entry does not take is not looked at. The concept of select
-/// and of the counts of links stands in the place of the query, whose step limit
-/// it has.
+/// A call; what its entry does not take is not looked at. The concept of
+/// check_concept, of select and of the counts of links stands in the place of the
+/// query, whose step limit it has.
 #[derive(Clone, Debug)]
 pub struct Call {
     pub entry: Entry,
@@ -145,6 +157,13 @@ impl Call {
 
 /// Code that answers calls as include/bikuvoa.h says.
 pub trait Answerer {
-    /// Returns 0 or the refusal's number. Only decide has a second out value.
-    fn answer(&self, call: &Call, lent: &mut [u16], outs: &mut [u64; 2]) -> u16;
+    /// Returns 0 or the refusal's number. Only decide has a second out value, and
+    /// only the checks have sets, of classes and of attributes.
+    fn answer(
+        &self,
+        call: &Call,
+        lent: &mut [u16],
+        outs: &mut [u64; 2],
+        sets: &mut [u32; 2],
+    ) -> u16;
 }

@@ -7,7 +7,13 @@ use bikuvoa::raw;
 pub struct Proved;
 
 impl Answerer for Proved {
-    fn answer(&self, call: &Call, lent: &mut [u16], outs: &mut [u64; 2]) -> u16 {
+    fn answer(
+        &self,
+        call: &Call,
+        lent: &mut [u16],
+        outs: &mut [u64; 2],
+        sets: &mut [u32; 2],
+    ) -> u16 {
         let Call {
             schema,
             query,
@@ -17,7 +23,10 @@ impl Answerer for Proved {
             ..
         } = call;
         let [out, second] = outs;
+        let [classes, attributes] = sets;
         match call.entry {
+            Entry::CheckConcept => raw::check_concept(schema, query, classes, attributes, out),
+            Entry::CheckView => raw::check_view(schema, view, classes, attributes, out),
             Entry::Select => raw::select(schema, query, state, lent, out),
             Entry::Legal => raw::legal(schema, state, out),
             Entry::Counterexample => raw::counterexample(schema, query, view, state, out),

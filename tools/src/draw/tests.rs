@@ -23,6 +23,7 @@ fn triples_are_accepted() {
     let mut prng = Prng::new(31);
     for _ in 0..DRAWS {
         assert_accepted(&Triple::random(&mut prng));
+        assert_accepted(&Triple::of_all_names(&mut prng));
         let followed = Triple::followed(&mut prng);
         assert_accepted(&followed);
         assert_accepted(&followed.near_miss(&mut prng));

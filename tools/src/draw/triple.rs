@@ -6,6 +6,7 @@ use crate::call::{Call, Entry};
 use crate::prng::Prng;
 use bikuvoa::layout::token::{self, BACKWARD, BOTH, EVERYTHING, FORWARD};
 use bikuvoa::layout::{self, Pair, Signature, MAX_TOKENS, QUERY_STEPS, VIEW_STEPS};
+use bikuvoa::layout::{MAX_ATTRIBUTES, MAX_CLASSES, MAX_CONSTANTS};
 use reference::records;
 use reference::syntax::{Concept, Schema};
 
@@ -28,8 +29,23 @@ impl Triple {
         Triple::random_at(prng, scale)
     }
 
+    /// As `random`, with all the classes, attributes and constants that there may
+    /// be, and of any size that records may have.
+    pub fn of_all_names(prng: &mut Prng) -> Self {
+        let signature = Signature {
+            classes: MAX_CLASSES,
+            attributes: MAX_ATTRIBUTES,
+            constants: MAX_CONSTANTS,
+        };
+        Triple::random_over(prng, signature, Scale::Large)
+    }
+
     fn random_at(prng: &mut Prng, scale: Scale) -> Self {
         let signature = schema::signature(prng, scale);
+        Triple::random_over(prng, signature, scale)
+    }
+
+    fn random_over(prng: &mut Prng, signature: Signature, scale: Scale) -> Self {
         Triple {
             signature,
             axioms: schema::axioms(prng, signature, scale),

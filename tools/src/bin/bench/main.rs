@@ -97,7 +97,7 @@ fn measure_beside(input: &Input) -> Result<Beside, String> {
         ..call.clone()
     };
     let mut outs = [0; 2];
-    Proved.answer(call, &mut [], &mut outs);
+    Proved.answer(call, &mut [], &mut outs, &mut [0; 2]);
     let (counted, selected) = (timing::proved(call)?, timing::proved(&select)?);
     let (counted, selected) = timing::in_turn(OF_ONE_INPUT, counted, selected);
     Ok(Beside {

@@ -60,9 +60,9 @@ fn calls_in_a_round(least: Duration, call: &mut impl FnMut()) -> u32 {
 /// to be worth measuring.
 pub fn proved(call: &Call) -> Result<impl FnMut() + '_, String> {
     let mut lent = vec![0; call.lent];
-    let mut outs = [0; 2];
-    match Proved.answer(call, &mut lent, &mut outs) {
-        0 => Ok(move || keep(Proved.answer(black_box(call), &mut lent, &mut outs))),
+    let (mut outs, mut sets) = ([0; 2], [0; 2]);
+    match Proved.answer(call, &mut lent, &mut outs, &mut sets) {
+        0 => Ok(move || keep(Proved.answer(black_box(call), &mut lent, &mut outs, &mut sets))),
         number => Err(format!("{} is refused as {number}", call.entry.name())),
     }
 }
@@ -80,6 +80,8 @@ pub fn reference(call: &Call) -> impl FnMut() + '_ {
             ..
         } = black_box(call);
         match call.entry {
+            Entry::CheckConcept => keep(entries::check_concept(schema, query)),
+            Entry::CheckView => keep(entries::check_view(schema, view)),
             Entry::Select => keep(entries::select(schema, query, state, &mut lent)),
             Entry::Legal => keep(entries::legal(schema, state)),
             Entry::Counterexample => keep(entries::counterexample(schema, query, view, state)),

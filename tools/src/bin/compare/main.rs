@@ -3,6 +3,7 @@
 //! made small, printed with its words, and ends the program with 1.
 
 mod damaged;
+mod names;
 mod outcome;
 mod report;
 mod shrink;
@@ -24,7 +25,8 @@ use verify::{verify, Difference};
 const SEED: u64 = 1;
 const TRIPLES: usize = 60_000;
 const STATES: usize = 40_000;
-const DAMAGED: usize = 90_000;
+const DAMAGED: usize = 116_000;
+const CONCEPTS: usize = 100_000;
 
 fn main() -> ExitCode {
     let seed = match std::env::args().nth(1).map(|argument| argument.parse()) {
@@ -52,7 +54,7 @@ fn smallest(difference: Box<Difference>) -> Box<Difference> {
     verify(&Proved, &call).err().unwrap_or(difference)
 }
 
-/// The three comparisons.
+/// The four comparisons.
 fn compare(seed: u64) -> Result<(), Box<Difference>> {
     println!("compare: seed {seed}");
     let mut prng = Prng::new(seed);
@@ -62,9 +64,12 @@ fn compare(seed: u64) -> Result<(), Box<Difference>> {
     println!("{states}");
     let damaged = damaged::run(&Proved, &mut prng.split(), DAMAGED)?;
     println!("{damaged}");
+    let names = names::run(&Proved, &mut prng.split(), CONCEPTS)?;
+    println!("{names}");
     println!(
         "compare: seed {seed}, {} triples (held {}, open {}), {} states (legal {}), \
-         {} link counts (not 0 {}), {} damaged records: no difference",
+         {} link counts (not 0 {}), {} damaged records, {} checked concepts \
+         (accepted as views {}): no difference",
         triples.triples(),
         triples.held(),
         triples.open(),
@@ -72,7 +77,9 @@ fn compare(seed: u64) -> Result<(), Box<Difference>> {
         states.legal,
         states.links,
         states.linked,
-        damaged.calls()
+        damaged.calls(),
+        names.concepts,
+        names.views
     );
     Ok(())
 }

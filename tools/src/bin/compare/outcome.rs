@@ -2,17 +2,22 @@
 
 use reference::calculus::Verdict;
 use reference::entries::{self, Counterexample, Legality};
+use reference::names::Named;
+use std::collections::BTreeSet;
 use tools::call::{Answerer, Call, Entry};
 
 /// Words after the lent ones, which nothing may touch.
 const GUARD: usize = 4;
 const UNTOUCHED: u64 = 0xBEEF_0000_BEEF;
+const UNTOUCHED_SET: u32 = 0xBEEF_BEEF;
 
-/// The number returned, the out values, and the lent words with the guard.
+/// The number returned, the out values, the sets of a check, and the lent words
+/// with the guard.
 #[derive(Clone, Debug, PartialEq, Eq)]
 pub struct Outcome {
     pub number: u16,
     pub outs: [u64; 2],
+    pub sets: [u32; 2],
     pub words: Vec<u16>,
 }
 
@@ -31,6 +36,7 @@ impl Outcome {
         Outcome {
             number: 0,
             outs: [UNTOUCHED; 2],
+            sets: [UNTOUCHED_SET; 2],
             words: places
                 .map(|place| (place as u16).wrapping_mul(40_503) ^ 0xBEEF)
                 .collect(),
@@ -41,8 +47,15 @@ impl Outcome {
     pub fn of(tested: &dyn Answerer, call: &Call) -> Self {
         let mut outcome = Outcome::untouched(call);
         let lent = &mut outcome.words[..call.lent];
-        outcome.number = tested.answer(call, lent, &mut outcome.outs);
+        outcome.number = tested.answer(call, lent, &mut outcome.outs, &mut outcome.sets);
         outcome
+    }
+
+    /// Puts the sets of a check; its out value is how many classes are named.
+    fn name(&mut self, answer: Result<Named, u16>) -> Result<u64, u16> {
+        let named = answer?;
+        self.sets = [bits(&named.classes), bits(&named.attributes)];
+        Ok(named.classes.len() as u64)
     }
 
     fn with(mut self, answer: Result<u64, u16>) -> Self {
@@ -52,6 +65,11 @@ impl Outcome {
         }
         self
     }
+}
+
+/// A set as a word: bit n, counted from the lowest, is 1 exactly if n is in it.
+fn bits(set: &BTreeSet<usize>) -> u32 {
+    set.iter().map(|number| 1 << number).sum()
 }
 
 /// What the reference answers.
@@ -66,6 +84,8 @@ pub fn expected(call: &Call) -> Expected {
         ..
     } = call;
     let answer = match call.entry {
+        Entry::CheckConcept => outcome.name(entries::check_concept(schema, query)),
+        Entry::CheckView => outcome.name(entries::check_view(schema, view)),
         Entry::Select => {
             let lent = &mut outcome.words[..call.lent];
             entries::select(schema, query, state, lent).map(u64::from)

@@ -14,7 +14,10 @@ pub fn report(difference: &Difference) {
             (None, _) => println!("{}: {} words", place.name(), call.lent),
         }
     }
-    println!("returned {}, out values {:?}", seen.number, seen.outs);
+    println!(
+        "returned {}, out values {:?}, sets {:?}",
+        seen.number, seen.outs, seen.sets
+    );
     let untouched = Outcome::untouched(call).words;
     let written = untouched.iter().zip(&seen.words);
     let written = written.take_while(|(before, after)| before != after);

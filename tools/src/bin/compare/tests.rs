@@ -7,7 +7,7 @@ mod smallest;
 mod spoilt;
 
 use crate::verify::Difference;
-use crate::{damaged, states, triples};
+use crate::{damaged, names, states, triples};
 use tools::call::Answerer;
 use tools::prng::Prng;
 
@@ -23,6 +23,11 @@ fn triple_difference(wrong: &dyn Answerer) -> Box<Difference> {
 fn state_difference(wrong: &dyn Answerer) -> Box<Difference> {
     let run = states::run(wrong, &mut Prng::new(SEED), CALLS);
     run.err().expect("a wrong judgement")
+}
+
+fn name_difference(wrong: &dyn Answerer) -> Box<Difference> {
+    let run = names::run(wrong, &mut Prng::new(SEED), CALLS);
+    run.err().expect("a wrong name")
 }
 
 fn damage_difference(wrong: &dyn Answerer) -> Box<Difference> {

@@ -49,6 +49,9 @@ fn check_outcome(call: &Call, must: &Outcome, seen: &Outcome) -> Result<(), Stri
             seen.outs, must.outs
         ));
     }
+    if must.sets != seen.sets {
+        return Err(format!("sets {:?} and not {:?}", seen.sets, must.sets));
+    }
     check_words(must, seen, 0)
 }
 

@@ -1,19 +1,25 @@
 //! Answerers that are right about another call than the one they are given:
 //! the inputs must be such that this matters.
 
-use super::{state_difference, triple_difference};
-use bikuvoa::layout::token::{BACKWARD, CONSTANT, EVERYTHING, FORWARD};
+use super::{name_difference, state_difference, triple_difference};
+use bikuvoa::layout::token::{BACKWARD, CLASS, CONSTANT, EVERYTHING, FORWARD};
 use bikuvoa::layout::{self, axiom, Pair, CONCEPT, SCHEMA};
-use tools::call::{Answerer, Call};
+use tools::call::{Answerer, Call, Entry};
 use tools::proved::Proved;
 
-struct Misread(fn(&mut Call));
+struct Misread<F: Fn(&mut Call)>(F);
 
-impl Answerer for Misread {
-    fn answer(&self, call: &Call, lent: &mut [u16], outs: &mut [u64; 2]) -> u16 {
+impl<F: Fn(&mut Call)> Answerer for Misread<F> {
+    fn answer(
+        &self,
+        call: &Call,
+        lent: &mut [u16],
+        outs: &mut [u64; 2],
+        sets: &mut [u32; 2],
+    ) -> u16 {
         let mut call = call.clone();
         (self.0)(&mut call);
-        Proved.answer(&call, lent, outs)
+        Proved.answer(&call, lent, outs, sets)
     }
 }
 
@@ -100,4 +106,70 @@ fn constants_taken_for_everything() {
             token => token,
         });
     });
+}
+
+/// Either of the two checks must be found if it reads tokens as others.
+fn assert_misnaming_found(alter: fn(Pair) -> Pair) {
+    for entry in Entry::CHECKS {
+        name_difference(&Misread(|call| {
+            if call.entry == entry {
+                alter_tokens(call, alter);
+            }
+        }));
+    }
+}
+
+#[test]
+fn every_class_taken_for_the_first() {
+    assert_misnaming_found(|token| match token {
+        (CLASS, _) => (CLASS, 0),
+        token => token,
+    });
+}
+
+#[test]
+fn everything_taken_for_a_class() {
+    assert_misnaming_found(|token| match token {
+        EVERYTHING => (CLASS, 0),
+        token => token,
+    });
+}
+
+#[test]
+fn constants_taken_for_classes() {
+    assert_misnaming_found(|token| match token {
+        (CONSTANT, number) => (CLASS, number),
+        token => token,
+    });
+}
+
+#[test]
+fn every_attribute_taken_for_the_first() {
+    assert_misnaming_found(|token| match token {
+        (sort @ (FORWARD | BACKWARD), _) => (sort, 0),
+        token => token,
+    });
+}
+
+/// A view with the steps of a query is accepted.
+#[test]
+fn a_view_taken_for_a_query() {
+    let found = name_difference(&Misread(|call| {
+        if call.entry == Entry::CheckView {
+            call.entry = Entry::CheckConcept;
+            call.query.clone_from(&call.view);
+        }
+    }));
+    assert_eq!(found.fault, "returned 0 and not 6");
+}
+
+#[test]
+fn a_query_taken_for_a_view() {
+    let found = name_difference(&Misread(|call| {
+        if call.entry == Entry::CheckConcept {
+            call.entry = Entry::CheckView;
+            call.view.clone_from(&call.query);
+        }
+    }));
+    assert_eq!(found.fault, "returned 6 and not 0");
 }

@@ -1,7 +1,7 @@
 //! Tests that the inputs are worth comparing on: a comparison that never meets
 //! an answer says nothing of it.
 
-use crate::{damaged, states, triples};
+use crate::{damaged, names, states, triples};
 use tools::prng::Prng;
 use tools::proved::Proved;
 
@@ -28,6 +28,18 @@ fn legal_and_illegal_states_are_both_common() {
 fn counts_of_links_are_often_0_and_often_not() {
     let tally = states::run(&Proved, &mut Prng::new(SEED), 2_000).expect("no difference");
     assert!(is_balanced(tally.linked, tally.links), "{tally}");
+}
+
+#[test]
+fn concepts_name_nothing_or_something_or_all() {
+    let tally = names::run(&Proved, &mut Prng::new(SEED), 4_000).expect("no difference");
+    let is_common = |part| part * 20 > tally.concepts;
+    for mix in [&tally.classes, &tally.attributes] {
+        let parts = [mix.none, mix.some, mix.all, mix.last];
+        assert!(parts.into_iter().all(is_common), "{tally}");
+    }
+    let parts = [tally.views, tally.concepts - tally.views];
+    assert!(parts.into_iter().all(is_common), "{tally}");
 }
 
 #[test]

@@ -1,9 +1,10 @@
 //! What is left of a difference once it is made small.
 
 use super::spoilt::{Answer, Spoilt};
-use super::{damage_difference, state_difference, triple_difference};
+use super::{damage_difference, name_difference, state_difference, triple_difference};
 use crate::shrink::shrink;
 use crate::verify::{verify, Difference};
+use bikuvoa::layout::token::EVERYTHING;
 use bikuvoa::layout::{self, Layout, Signature, CONCEPT, SCHEMA, STATE};
 use tools::call::{Call, Entry};
 
@@ -85,6 +86,21 @@ fn of_a_wrong_attribute() {
     // No attribute at all is declared.
     let signature = Signature::of(&call.schema).expect("a schema");
     assert_eq!((signature.attributes, call.attribute), (0, 0));
+}
+
+#[test]
+fn of_a_wrong_name() {
+    let counted_tokens: Spoil = |answer| {
+        if answer.is_of(Entry::CheckView) {
+            answer.outs[0] = answer.tokens() as u64;
+        }
+    };
+    let found = name_difference(&Spoilt(counted_tokens));
+    assert!(entries(&CONCEPT, &found.call.view) > 1);
+    let call = smallest(counted_tokens, *found);
+    // Nothing at all is declared, and a view of one token has all objects.
+    assert_eq!(call.schema, layout::schema(Signature::default(), &[]));
+    assert_eq!(call.view, layout::concept(&[EVERYTHING]));
 }
 
 #[test]

@@ -1,7 +1,9 @@
 //! Wrong answers, each the proved code's with one thing spoilt.
 
-use super::{damage_difference, state_difference, triple_difference};
-use bikuvoa::layout::{self, fact, Pair, Signature, DECIDE_WORDS, MAX_OBJECTS, STATE};
+use super::{damage_difference, name_difference, state_difference, triple_difference};
+use bikuvoa::layout::token::{BACKWARD, CLASS, FORWARD};
+use bikuvoa::layout::{self, axiom, fact, Pair, Signature, CONCEPT, SCHEMA, STATE};
+use bikuvoa::layout::{DECIDE_WORDS, MAX_ATTRIBUTES, MAX_CLASSES, MAX_OBJECTS};
 use std::collections::BTreeSet;
 use tools::call::{Answerer, Call, Entry};
 use tools::proved::Proved;
@@ -15,6 +17,7 @@ pub struct Answer<'a> {
     pub before: Vec<u16>,
     pub lent: &'a mut [u16],
     pub outs: &'a mut [u64; 2],
+    pub sets: &'a mut [u32; 2],
     pub number: u16,
 }
 
@@ -24,9 +27,15 @@ const LAST_WORD: usize = DECIDE_WORDS - 1;
 pub struct Spoilt<F: Fn(&mut Answer)>(pub F);
 
 impl<F: Fn(&mut Answer)> Answerer for Spoilt<F> {
-    fn answer(&self, call: &Call, lent: &mut [u16], outs: &mut [u64; 2]) -> u16 {
+    fn answer(
+        &self,
+        call: &Call,
+        lent: &mut [u16],
+        outs: &mut [u64; 2],
+        sets: &mut [u32; 2],
+    ) -> u16 {
         let before = lent.to_vec();
-        let number = Proved.answer(call, lent, outs);
+        let number = Proved.answer(call, lent, outs, sets);
         let mut answer = Answer {
             call,
             entry: call.entry,
@@ -34,6 +43,7 @@ impl<F: Fn(&mut Answer)> Answerer for Spoilt<F> {
             before,
             lent,
             outs,
+            sets,
             number,
         };
         (self.0)(&mut answer);
@@ -63,6 +73,23 @@ impl Answer<'_> {
         signature.expect("a schema").attributes
     }
 
+    /// The record of the concept that a check takes, after the schema.
+    fn concept(&self) -> &[u16] {
+        let place = self.entry.places()[1];
+        self.call.record(place).expect("a concept's place")
+    }
+
+    /// How many tokens the concept has that a check takes.
+    pub fn tokens(&self) -> usize {
+        CONCEPT.entries(self.concept()).expect("a concept").count()
+    }
+
+    /// Those of these sorts.
+    fn tokens_of(&self, sorts: &[u16]) -> Vec<Pair> {
+        let tokens = CONCEPT.entries(self.concept()).expect("a concept");
+        tokens.filter(|(sort, _)| sorts.contains(sort)).collect()
+    }
+
     /// The pairs of the call's attribute, each a first and a second object.
     pub fn pairs(&self) -> Vec<(usize, usize)> {
         let facts = STATE.entries(&self.call.state).expect("a state");
@@ -77,7 +104,7 @@ impl Answer<'_> {
         let mut marks = vec![0; MAX_OBJECTS.into()];
         let mut select = self.call.clone();
         select.entry = Entry::Select;
-        Proved.answer(&select, &mut marks, &mut [0; 2]);
+        Proved.answer(&select, &mut marks, &mut [0; 2], &mut [0; 2]);
         marks.iter().map(|&mark| mark == 1).collect()
     }
 }
@@ -343,6 +370,122 @@ fn a_count_of_a_refused_call() {
         });
         for found in [state_difference(&wrong), damage_difference(&wrong)] {
             assert!(found.fault.starts_with("out values "), "{}", found.fault);
+        }
+    }
+}
+
+/// Either of the two checks must be found if it tells something else.
+fn assert_misnaming_found(spoil: fn(&mut Answer)) {
+    for entry in Entry::CHECKS {
+        let found = name_difference(&Spoilt(|answer| {
+            if answer.is_of(entry) {
+                spoil(answer);
+            }
+        }));
+        let fault = found.fault;
+        let is_of_values = fault.starts_with("out values ") || fault.starts_with("sets ");
+        assert!(is_of_values, "{fault}");
+    }
+}
+
+/// The arguments of the tokens, as a set.
+fn set(tokens: &[Pair]) -> u32 {
+    tokens.iter().fold(0, |set, (_, number)| set | 1 << number)
+}
+
+#[test]
+fn a_class_counted_as_often_as_it_is_named() {
+    assert_misnaming_found(|answer| answer.outs[0] = answer.tokens_of(&[CLASS]).len() as u64);
+}
+
+#[test]
+fn tokens_counted_for_classes() {
+    assert_misnaming_found(|answer| answer.outs[0] = answer.tokens() as u64);
+}
+
+#[test]
+fn attributes_counted_as_well() {
+    assert_misnaming_found(|answer| answer.outs[0] += u64::from(answer.sets[1].count_ones()));
+}
+
+#[test]
+fn another_count_where_nothing_is_named() {
+    assert_misnaming_found(|answer| {
+        if answer.outs[0] == 0 {
+            answer.outs[0] = u64::MAX;
+        }
+    });
+}
+
+#[test]
+fn attributes_of_forward_steps_only() {
+    assert_misnaming_found(|answer| answer.sets[1] = set(&answer.tokens_of(&[FORWARD])));
+}
+
+#[test]
+fn attributes_of_backward_steps_only() {
+    assert_misnaming_found(|answer| answer.sets[1] = set(&answer.tokens_of(&[BACKWARD])));
+}
+
+#[test]
+fn sets_without_the_last() {
+    assert_misnaming_found(|answer| answer.sets[0] &= !(1 << (MAX_CLASSES - 1)));
+    assert_misnaming_found(|answer| answer.sets[1] &= !(1 << (MAX_ATTRIBUTES - 1)));
+}
+
+#[test]
+fn sets_with_a_bit_above_the_last() {
+    assert_misnaming_found(|answer| answer.sets[0] |= 1 << MAX_CLASSES);
+    assert_misnaming_found(|answer| answer.sets[1] |= 1 << MAX_ATTRIBUTES);
+}
+
+#[test]
+fn sets_exchanged() {
+    assert_misnaming_found(|answer| answer.sets.swap(0, 1));
+}
+
+#[test]
+fn classes_of_axioms_as_well() {
+    assert_misnaming_found(|answer| {
+        let axioms = SCHEMA.entries(&answer.call.schema).expect("a schema");
+        let needs = axioms.filter(|&words| axiom::kind(words) == axiom::NECESSARY);
+        let classes = needs.map(|words| 1 << axiom::subject(words));
+        answer.sets[0] = classes.fold(answer.sets[0], |set, class: u32| set | class);
+        answer.outs[0] = answer.sets[0].count_ones().into();
+    });
+}
+
+#[test]
+fn the_schema_refused_after_the_concept() {
+    for entry in Entry::CHECKS {
+        let found = damage_difference(&Spoilt(|answer| {
+            let is_of_schema = answer.entry == entry && (1..=2).contains(&answer.number);
+            if is_of_schema && CONCEPT.entries(answer.concept()).is_none() {
+                answer.number = 3;
+            }
+        }));
+        assert!(found.fault.starts_with("returned 3 "), "{}", found.fault);
+    }
+}
+
+/// Each refusal of each check, and each value that it may not write.
+#[test]
+fn a_name_of_a_refused_check() {
+    let spoils: [fn(&mut Answer); 3] = [
+        |answer| answer.outs[0] = 0,
+        |answer| answer.sets[0] = 0,
+        |answer| answer.sets[1] = 0,
+    ];
+    for entry in Entry::CHECKS {
+        for number in 1..=6 {
+            for spoil in spoils {
+                let found = damage_difference(&Spoilt(|answer| {
+                    if answer.entry == entry && answer.number == number {
+                        spoil(answer);
+                    }
+                }));
+                assert_eq!((found.call.entry, found.seen.number), (entry, number));
+            }
         }
     }
 }
