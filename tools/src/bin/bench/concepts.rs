@@ -4,7 +4,8 @@ use crate::schemas::{CONSULTS, NAME, SKILLED_IN, SUFFERS, WEARS};
 use crate::schemas::{DISEASE, DOCTOR, FEMALE, FREE, MALE, PATIENT, PERSON, STRAP, STRING};
 use bikuvoa::layout::token::{backward, class, forward};
 use bikuvoa::layout::token::{BOTH, COMMON, EMPTY, EVERYTHING, REACHED};
-use bikuvoa::layout::{concept, Pair, MAX_ATTRIBUTES, MAX_TOKENS, QUERY_STEPS, VIEW_STEPS};
+use bikuvoa::layout::{concept, Pair, MAX_ATTRIBUTES, MAX_CLASSES, MAX_TOKENS};
+use bikuvoa::layout::{QUERY_STEPS, VIEW_STEPS};
 
 pub fn person() -> Vec<u16> {
     concept(&[class(PERSON)])
@@ -149,6 +150,21 @@ pub fn six_needs() -> Vec<u16> {
     tokens[last] = class(FREE);
     tokens.push(REACHED);
     filled(tokens)
+}
+
+/// As many tokens as there may be, a path of so many steps among them, which name
+/// all classes and as many attributes as there are steps for.
+pub fn all_named(steps: usize) -> Vec<u16> {
+    let mut classes = (0..MAX_CLASSES).cycle().map(class);
+    let attributes = (0..MAX_ATTRIBUTES).cycle().map(forward);
+    let mut tokens = vec![EMPTY];
+    for (landing, step) in classes.by_ref().zip(attributes).take(steps) {
+        tokens.extend([landing, step]);
+    }
+    tokens.push(REACHED);
+    let more = (MAX_TOKENS - tokens.len()) / 2;
+    tokens.extend(classes.take(more).flat_map(|class| [class, BOTH]));
+    concept(&tokens)
 }
 
 /// How many common objects stand in each other.

@@ -1,7 +1,7 @@
 //! The inputs that are measured.
 
 use crate::{concepts, drawn, schemas, states};
-use bikuvoa::layout::MAX_OBJECTS;
+use bikuvoa::layout::{MAX_OBJECTS, QUERY_STEPS, VIEW_STEPS};
 use tools::call::{Call, Entry};
 
 /// A call and what is said of it in the table.
@@ -75,7 +75,7 @@ fn small(entry: Entry) -> Call {
         _ => schemas::straps(),
     };
     let query = match entry {
-        Entry::Select => concepts::there_and_back(),
+        Entry::CheckConcept | Entry::Select => concepts::there_and_back(),
         Entry::LinksByFirst | Entry::LinksBySecond => concepts::wearers(),
         _ => concepts::person(),
     };
@@ -112,10 +112,15 @@ fn middle(entry: Entry) -> Call {
 /// the facts, axioms where every class and attribute is in use.
 fn largest(entry: Entry) -> Call {
     let (schema, state) = match entry {
-        Entry::Legal | Entry::Decide | Entry::Holds => (schemas::largest(), states::largest()),
-        _ => (schemas::dense(), states::dense()),
+        Entry::Select | Entry::Counterexample => (schemas::dense(), states::dense()),
+        Entry::LinksByFirst | Entry::LinksBySecond => (schemas::dense(), states::dense()),
+        _ => (schemas::largest(), states::largest()),
     };
     let (query, view) = match entry {
+        Entry::CheckConcept | Entry::CheckView => (
+            concepts::all_named(QUERY_STEPS),
+            concepts::all_named(VIEW_STEPS),
+        ),
         Entry::Decide | Entry::Holds => (concepts::star(), concepts::six_needs()),
         _ => (concepts::long_paths(), concepts::six_steps()),
     };
