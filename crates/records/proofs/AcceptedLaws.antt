@@ -11,7 +11,6 @@ use Rattle.records.specs.declared.schema.Axiom.{Axiom}
 use Rattle.records.specs.declared.schema.Axiom.the-variants.{Subclass, Typing, Necessary, Single, Relates}
 use Rattle.records.specs.declared.token.Token.{Token}
 use Rattle.records.specs.declared.token.Token.the-variants.{Class, Everything, Constant, Both, Empty, Forward, Backward, Reached, Common}
-use Rattle.records.specs.declared.named.Named.{Named}
 use Rattle.records.specs.declared.schema.SchemaAnswer.the-variants as schema
 use Rattle.records.specs.declared.concept.ConceptAnswer.the-variants as concept
 use Rattle.records.specs.declared.state.StateAnswer.the-variants as state
@@ -23,14 +22,13 @@ use Rattle.records.specs.ConceptRecord.{tokenAt, conceptOf}
 use Rattle.records.specs.StateRecord.{objects, stateOf}
 use Rattle.records.specs.State.{repeats}
 use Rattle.records.specs.Shape.{misshapen, outside}
-use Rattle.records.specs.Named.{namedIn}
 use Rattle.records.specs.SchemaRefusal.{oversized, declares, faultyAxiom, refusal-1, refusal-2, schemaAnswer, AcceptedSchema}
-use Rattle.records.specs.ConceptRefusal.{suits, faultyToken, steps, refusal-3, refusal-4, refusal-5, refusal-6, conceptAnswer, AcceptedConcept}
-use Rattle.records.specs.StateRefusal.{faultyFact, ascends, descends, namesAt, misnames, refusal-7, refusal-8, refusal-9, refusal-10, stateAnswer, AcceptedState}
+use Rattle.records.specs.ConceptRefusal.{suits, faultyToken, steps, refusal-3, refusal-4, refusal-5, refusal-6, conceptAnswer, conceptNumber, AcceptedConcept}
+use Rattle.records.specs.StateRefusal.{faultyFact, ascends, descends, namesAt, misnames, refusal-7, refusal-8, refusal-9, refusal-10, stateAnswer, stateNumber, AcceptedState}
 use Rattle.records.specs.Helpers.Steps.{conceptSteps}
 use Rattle.records.specs.Helpers.Reading.{startOf, HasConcept, stepToken, stepNumber}
 use Rattle.records.specs.Helpers.InRange.{AxiomInRange, TokenInRange}
-use Rattle.records.proofs.General.BoolLaws.{or-false-left, or-false-right, and-map, and-three-map}
+use Rattle.records.proofs.General.BoolLaws.{or-false-left, or-false-right, and-map, and-three-map, none-of-four}
 use Rattle.records.proofs.General.FiniteLaws.{any-none}
 use Rattle.records.proofs.ReadingLaws.{number-concept, whole-concept}
 
@@ -50,17 +48,17 @@ module _ (w : List ℕ) (ok : AcceptedSchema w) where
   unfolding schemaAnswer
   passes-2 = schema-none (refusal-1 w) (refusal-2 w) ok .1
 
-concept-none : (v : Named) (a b c d : Bool) → cond a concept.BadShape (cond b concept.BadToken (cond c concept.BadPile (cond d concept.BadSteps (concept.Accepted v)))) ≡ concept.Accepted v → (a ≡ false) × (b ≡ false) × (c ≡ false) × (d ≡ false)
-concept-none v true b c d e = (cc, cc, cc, cc)
-concept-none v false true c d e = (cc, cc, cc, cc)
-concept-none v false false true d e = (cc, cc, cc, cc)
-concept-none v false false false true e = (cc, cc, cc, cc)
-concept-none v false false false false e = (refl, refl, refl, refl)
+module _ (limit : ℕ) (s : Signature) (w : List ℕ) where
+  pub faultless-concept : conceptNumber (conceptAnswer limit s w) ≡ 0
+      → (refusal-3 w ≡ false) × (refusal-4 s w ≡ false) × (refusal-5 w ≡ false) × (refusal-6 limit w ≡ false)
+  unfolding conceptAnswer
+  faultless-concept =
+      none-of-four (λ a. conceptNumber a ≡ 0) concept.BadShape concept.BadToken concept.BadPile concept.BadSteps _ (λ e. omega arith) (λ e. omega arith) (λ e. omega arith) (λ e. omega arith)
+      (refusal-3 w) (refusal-4 s w) (refusal-5 w) (refusal-6 limit w)
 
 module _ (limit : ℕ) (s : Signature) (w : List ℕ) (ok : AcceptedConcept limit s w) where
   passes-concept : (refusal-3 w ≡ false) × (refusal-4 s w ≡ false) × (refusal-5 w ≡ false) × (refusal-6 limit w ≡ false)
-  unfolding conceptAnswer
-  passes-concept = concept-none (namedIn w) (refusal-3 w) (refusal-4 s w) (refusal-5 w) (refusal-6 limit w) ok
+  passes-concept = faultless-concept limit s w (ap conceptNumber ok)
 
   pub passes-3 : refusal-3 w ≡ false
   passes-3 = passes-concept .0
@@ -74,17 +72,17 @@ module _ (limit : ℕ) (s : Signature) (w : List ℕ) (ok : AcceptedConcept limi
   pub passes-6 : refusal-6 limit w ≡ false
   passes-6 = passes-concept .3
 
-state-none : (a b c d : Bool) → cond a state.BadShape (cond b state.BadFact (cond c state.BadOrder (cond d state.BadConstants state.Accepted))) ≡ state.Accepted → (a ≡ false) × (b ≡ false) × (c ≡ false) × (d ≡ false)
-state-none true b c d e = (cc, cc, cc, cc)
-state-none false true c d e = (cc, cc, cc, cc)
-state-none false false true d e = (cc, cc, cc, cc)
-state-none false false false true e = (cc, cc, cc, cc)
-state-none false false false false e = (refl, refl, refl, refl)
+module _ (s : Signature) (w : List ℕ) where
+  pub faultless-state : stateNumber (stateAnswer s w) ≡ 0
+      → (refusal-7 w ≡ false) × (refusal-8 s w ≡ false) × (refusal-9 w ≡ false) × (refusal-10 s w ≡ false)
+  unfolding stateAnswer
+  faultless-state =
+      none-of-four (λ a. stateNumber a ≡ 0) state.BadShape state.BadFact state.BadOrder state.BadConstants _ (λ e. omega arith) (λ e. omega arith) (λ e. omega arith) (λ e. omega arith)
+      (refusal-7 w) (refusal-8 s w) (refusal-9 w) (refusal-10 s w)
 
 module _ (s : Signature) (w : List ℕ) (ok : AcceptedState s w) where
   passes-state : (refusal-7 w ≡ false) × (refusal-8 s w ≡ false) × (refusal-9 w ≡ false) × (refusal-10 s w ≡ false)
-  unfolding stateAnswer
-  passes-state = state-none (refusal-7 w) (refusal-8 s w) (refusal-9 w) (refusal-10 s w) ok
+  passes-state = faultless-state s w (ap stateNumber ok)
 
   pub passes-7 : refusal-7 w ≡ false
   passes-7 = passes-state .0

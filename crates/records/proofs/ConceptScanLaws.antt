@@ -13,7 +13,6 @@ use borrow.Author.Tests.{lt-ltb, le-ltb, eq-eqb, ne-eqb}
 use lib.Bits.{bitOr}
 use lib.Dec.{eqb, ltb}
 use lib.ListN.{length, getD}
-use mir.Val.{boolByte}
 use Rattle.records.specs.declared.token.Token.{Token}
 use Rattle.records.specs.declared.token.Token.the-variants.{Class, Everything, Constant, Both, Empty, Forward, Backward, Reached, Common}
 use Rattle.records.specs.declared.sorts.Sorts.{Sorts}
@@ -26,22 +25,22 @@ use Rattle.records.specs.ConceptRefusal.{isConcept, suits, faultyToken, 
 use Rattle.records.specs.Layout.{conceptLayout, entries, leftAt, rightAt, sizeAt, maxClasses, maxAttributes}
 use Rattle.records.specs.Shape.{outside}
 use Rattle.records.specs.Named.{hasClass, hasAttribute, classNamed, attributeNamed, namedIn}
-use Rattle.records.proofs.General.FiniteLaws.{count-le}
+use Rattle.records.proofs.General.FiniteLaws.{count-turn, count-le}
 use Rattle.records.proofs.General.SetLaws.{set-none, set-or, set-ones}
 use Rattle.records.specs.Helpers.Scan.{putSort, joinSorts, reachSort, pushOk, pushSort, isConceptSort, readToken, namedBy, scanAnswer}
 
 -- The pile's sorts.
 
-abbrev pub sortBit : Item → ℕ
+abbrev sortBit : Item → ℕ
 sortBit (Item.concept C) = 0
 sortBit (Item.path p) = 1
 
 -- the sorts as bits, the top lowest
-abbrev pub bitsOf : List Item → ℕ
+abbrev bitsOf : List Item → ℕ
 bitsOf [] = 0
 bitsOf (x ∷ s) = 2 * bitsOf s + sortBit x
 
-abbrev pub sortsOf : Pile → Sorts
+abbrev sortsOf : Pile → Sorts
 sortsOf none = record { ok = false; bits = 0; height = 0 }
 sortsOf (some s) = record { ok = true; bits = bitsOf s; height = length s }
 
@@ -77,7 +76,7 @@ reach-one (Item.path p) s =
     (ap (λ (b : ℕ). record { ok = true; bits = b; height = suc (length s) }) (omega arith))
 
 -- a token's effect on the sorts alone
-pub after-sorts : (t : Token) (p : Pile) → sortsOf (after t p) ≡ pushSort t (sortsOf p)
+after-sorts : (t : Token) (p : Pile) → sortsOf (after t p) ≡ pushSort t (sortsOf p)
 after-sorts t none = refl
 after-sorts (Class A) (some s) = put-law s (Item.concept (class A))
 after-sorts Everything (some s) = put-law s (Item.concept everything)
@@ -115,7 +114,7 @@ after-sorts Common (some (Item.concept D ∷ Item.path p ∷ s)) = sym (join-two
 after-sorts Common (some (Item.path q ∷ Item.concept C ∷ s)) = sym (join-two (Item.path q) (Item.concept C) s 3 0)
 after-sorts Common (some (Item.path q ∷ Item.path p ∷ s)) = sym (join-two (Item.path q) (Item.path p) s 3 0)
 
-pub concept-sorts : (p : Pile) → isConceptSort (sortsOf p) ≡ isConcept p
+concept-sorts : (p : Pile) → isConceptSort (sortsOf p) ≡ isConcept p
 concept-sorts none = refl
 concept-sorts (some []) = refl
 concept-sorts (some (Item.concept C ∷ [])) = refl
@@ -147,7 +146,7 @@ ok-height Reached σ =
     (record { ok = true; bits = σ .bits - 1; height = σ .height }) (suc (σ .height)) (omega arith) (omega arith)
 ok-height Common σ = join-height σ 3 0
 
-pub pile-height : (w : List ℕ) (e : ℕ) → sortsOf (pileAfter w e) .height ≤ e
+pile-height : (w : List ℕ) (e : ℕ) → sortsOf (pileAfter w e) .height ≤ e
 unfolding pileAfter
 pile-height w zero = omega arith
 pile-height w (suc e) =
@@ -163,7 +162,7 @@ bits-small : (s : List Item) → bitsOf s < 2 ^ length s
 bits-small [] = omega arith
 bits-small (x ∷ s) = rw pow-suc (omega (arith, bits-small s, bit-small x))
 
-pub pile-bits : (p : Pile) (n : ℕ) → sortsOf p .height ≤ n → sortsOf p .bits < 2 ^ n
+pile-bits : (p : Pile) (n : ℕ) → sortsOf p .height ≤ n → sortsOf p .bits < 2 ^ n
 pile-bits none n h = pow-pos n
 pile-bits (some s) n h = lt-of-lt-of-le (bits-small s) (pow-mono h)
 
@@ -191,11 +190,7 @@ module _ (w : List ℕ) where
   scan-steps : (i : ℕ) → scanAfter w i .steps ≡ count i (stepAt w)
   unfolding scanAfter count
   scan-steps zero = refl
-  scan-steps (suc i) = ap (λ (k : ℕ). k + boolByte (stepAt w i)) (scan-steps i) ∙ pick (stepAt w i)
-    where
-      pick : (b : Bool) → count i (stepAt w) + boolByte b ≡ cond b (suc (count i (stepAt w))) (count i (stepAt w))
-      pick true = omega arith
-      pick false = omega arith
+  scan-steps (suc i) = count-turn (stepAt w) i (scanAfter w i .steps) (stepAt w i) (scan-steps i) refl ∙ ap (λ (n : ℕ). count n (stepAt w)) (add-one i)
 
   -- one token more, for either set
   named-more : (names : ℕ → Token → Bool) (n i : ℕ) {c : ℕ} → c ≡ setOf n (λ x. any i λ j. names x (tokenAt w j))

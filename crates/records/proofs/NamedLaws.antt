@@ -3,7 +3,7 @@ use Prim.Native.Nat.{ℕ, _<_}
 use mathlib.Core.Bool.{false, So, false≢true}
 use mathlib.Core.List.{List, [], _∷_}
 use mathlib.Core.Logic.{_⊎_, inl, inr, ⊎-elim, _↔_}
-use mathlib.Core.Path.{_≡_, refl, sym, ap, subst}
+use mathlib.Core.Path.{_≡_, sym, ap, subst}
 use borrow.Author.Tests.{eqb-true, eq-eqb}
 use types.Run.{OneOf, miss}
 use denote.Enum.Declared.{tagOf}
@@ -19,32 +19,11 @@ use Rattle.records.specs.Helpers.InRange.{TokenInRange}
 use Rattle.records.specs.declared.check.CheckAnswer.the-variants.{Accepted, Refused}
 use Rattle.records.specs.Check.{checkRefusals, conceptCheck, CheckExact}
 use Rattle.records.specs.Named.{NamesClass, NamesAttribute, hasClass, hasAttribute, classNamed, attributeNamed, namedIn, NamedExactly}
+use Rattle.records.proofs.General.BoolLaws.{false-of}
 use Rattle.records.proofs.General.FiniteLaws.{any-iff}
 use Rattle.records.proofs.General.SetLaws.{set-iff, set-ones}
 use Rattle.records.proofs.AcceptedLaws.{token-in-range}
 use Rattle.records.proofs.OutcomeLaws.{first-passed, outcome-refused, outcome-answered, passed-schema, passed-concept}
-
-pub no-class : (t : declared.Token) → OneOf (1 ∷ 2 ∷ 3 ∷ 4 ∷ 5 ∷ 6 ∷ 7 ∷ 8 ∷ []) (tagOf Token.the-type t) → (A : ℕ) → hasClass A t ≡ false
-no-class (Class B) h A = absurd (miss (1 ∷ 2 ∷ 3 ∷ 4 ∷ 5 ∷ 6 ∷ 7 ∷ 8 ∷ []) 0 tt h)
-no-class Everything h A = refl
-no-class (Constant a) h A = refl
-no-class Both h A = refl
-no-class Empty h A = refl
-no-class (Forward P) h A = refl
-no-class (Backward P) h A = refl
-no-class Reached h A = refl
-no-class Common h A = refl
-
-pub no-attribute : (t : declared.Token) → OneOf (0 ∷ 1 ∷ 2 ∷ 3 ∷ 4 ∷ 7 ∷ 8 ∷ []) (tagOf Token.the-type t) → (P : ℕ) → hasAttribute P t ≡ false
-no-attribute (Class A) h P = refl
-no-attribute Everything h P = refl
-no-attribute (Constant a) h P = refl
-no-attribute Both h P = refl
-no-attribute Empty h P = refl
-no-attribute (Forward Q) h P = absurd (miss (0 ∷ 1 ∷ 2 ∷ 3 ∷ 4 ∷ 7 ∷ 8 ∷ []) 5 tt h)
-no-attribute (Backward Q) h P = absurd (miss (0 ∷ 1 ∷ 2 ∷ 3 ∷ 4 ∷ 7 ∷ 8 ∷ []) 6 tt h)
-no-attribute Reached h P = refl
-no-attribute Common h P = refl
 
 class-iff : (A : ℕ) (t : declared.Token) → So (hasClass A t) ↔ (t ≡ Class A)
 class-iff A (Class B) = (λ e. ap Class (sym (eqb-true A B e)), λ q. eq-eqb A B cc)
@@ -67,6 +46,26 @@ attribute-iff P Both = (λ e. absurd (false≢true e), ⊎-elim (λ q. cc) (λ q
 attribute-iff P Empty = (λ e. absurd (false≢true e), ⊎-elim (λ q. cc) (λ q. cc))
 attribute-iff P Reached = (λ e. absurd (false≢true e), ⊎-elim (λ q. cc) (λ q. cc))
 attribute-iff P Common = (λ e. absurd (false≢true e), ⊎-elim (λ q. cc) (λ q. cc))
+
+-- A token of another sort names nothing; the numbers are the places of the sorts in the enum.
+
+abbrev Among : List ℕ → declared.Token → Type 0
+Among tags t = OneOf tags (tagOf Token.the-type t)
+
+abbrev no-class-tags : List ℕ
+no-class-tags = 1 ∷ 2 ∷ 3 ∷ 4 ∷ 5 ∷ 6 ∷ 7 ∷ 8 ∷ []
+
+pub no-class : (t : declared.Token) → Among no-class-tags t → (A : ℕ) → hasClass A t ≡ false
+no-class t h A = false-of (hasClass A t) λ e. miss no-class-tags 0 tt (subst (Among no-class-tags) (class-iff A t .0 e) h)
+
+abbrev no-attribute-tags : List ℕ
+no-attribute-tags = 0 ∷ 1 ∷ 2 ∷ 3 ∷ 4 ∷ 7 ∷ 8 ∷ []
+
+pub no-attribute : (t : declared.Token) → Among no-attribute-tags t → (P : ℕ) → hasAttribute P t ≡ false
+no-attribute t h P =
+    false-of (hasAttribute P t) λ e.
+    ⊎-elim (λ q. miss no-attribute-tags 5 tt (subst (Among no-attribute-tags) q h))
+    (λ q. miss no-attribute-tags 6 tt (subst (Among no-attribute-tags) q h)) (attribute-iff P t .0 e)
 
 module _ (schema : List ℕ) (fine : AcceptedSchema schema) (limit : ℕ) (w : List ℕ) (ok : AcceptedConcept limit (signatureOf schema) w) where
   class-below : (A : ℕ) → NamesClass w A → A < maxClasses

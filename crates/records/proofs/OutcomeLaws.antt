@@ -25,10 +25,11 @@ use Rattle.records.specs.declared.state.StateAnswer.the-variants as of-s
 use Rattle.records.specs.Layout.{querySteps, viewSteps}
 use Rattle.records.specs.SchemaRefusal.{schemaNumber, refusal-1, refusal-2, schemaAnswer, AcceptedSchema}
 use Rattle.records.specs.Named.{namedIn}
-use Rattle.records.specs.ConceptRefusal.{refusal-3, refusal-4, refusal-5, refusal-6, conceptNumber, conceptAnswer, AcceptedConcept}
+use Rattle.records.specs.ConceptRefusal.{conceptNumber, conceptAnswer, AcceptedConcept}
 use Rattle.records.specs.StateRefusal.{stateNumber, stateAnswer, AcceptedState}
 use Rattle.records.specs.Outcome.{refusal-11, refusal-12, schemaRefusal, queryRefusal, viewRefusal, stateRefusal, lentRefusal, attributeRefusal, firstRefusal, outcome}
 use Rattle.records.specs.SchemaRecord.{signatureOf}
+use Rattle.records.proofs.AcceptedLaws.{faultless-concept, faultless-state}
 
 -- Numbers in checking order.
 
@@ -191,22 +192,10 @@ module _ (schema : List ℕ) where
   pub state-passed : (state : List ℕ) → AcceptedState (signatureOf schema) state → stateRefusal schema state ≡ 0
   state-passed state ok = ap stateNumber ok
 
--- the answer by four tests
-abbrev by-tests : Named → Bool → Bool → Bool → Bool → ConceptAnswer
-by-tests v a b c d =
-    cond a of-concept.BadShape (cond b of-concept.BadToken (cond c of-concept.BadPile (cond d of-concept.BadSteps (of-concept.Accepted v))))
-
 module _ (limit : ℕ) (s : Signature) (w : List ℕ) where
   pub passed-concept : conceptNumber (conceptAnswer limit s w) ≡ 0 → AcceptedConcept limit s w
   unfolding conceptAnswer
-  passed-concept e = pick (namedIn w) (refusal-3 w) (refusal-4 s w) (refusal-5 w) (refusal-6 limit w) e
-    where
-      pick : (v : Named) (a b c d : Bool) → conceptNumber (by-tests v a b c d) ≡ 0 → by-tests v a b c d ≡ of-concept.Accepted v
-      pick v true b c d h = absurd (omega arith)
-      pick v false true c d h = absurd (omega arith)
-      pick v false false true d h = absurd (omega arith)
-      pick v false false false true h = absurd (omega arith)
-      pick v false false false false h = refl
+  passed-concept e = let z = faultless-concept limit s w e in rw (z .0, z .1, z .2, z .3)
 
   -- what an accepted concept's answer holds
   pub concept-named : {x : Named} → conceptAnswer limit s w ≡ of-concept.Accepted x → (x ≡ namedIn w) × AcceptedConcept limit s w
@@ -224,14 +213,8 @@ module _ (schema : List ℕ) where
   passed-view view e = passed-concept viewSteps (signatureOf schema) view e
 
   pub passed-state : (state : List ℕ) → stateRefusal schema state ≡ 0 → AcceptedState (signatureOf schema) state
-  passed-state state e = pick _ e
-    where
-      pick : (a : StateAnswer) → stateNumber a ≡ 0 → a ≡ of-state.Accepted
-      pick of-state.Accepted e = refl
-      pick of-state.BadShape e = absurd (omega arith)
-      pick of-state.BadFact e = absurd (omega arith)
-      pick of-state.BadOrder e = absurd (omega arith)
-      pick of-state.BadConstants e = absurd (omega arith)
+  unfolding stateAnswer
+  passed-state state e = let z = faultless-state (signatureOf schema) state e in rw (z .0, z .1, z .2, z .3)
 
 pub passed-attribute : (schema : List ℕ) (P : ℕ) → attributeRefusal schema P ≡ 0 → P < signatureOf schema .attributes
 unfolding refusal-12
