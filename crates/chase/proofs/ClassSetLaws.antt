@@ -2,20 +2,18 @@
 -- larger; and that two sets meet where a class is in both. All by one law: a class is in a set by its bit (has-bit).
 use Prim.Native.Nat.{ℕ, zero, suc, _+_, _-_, _*_, _/_, _%_, _^_, _≤_, _<_}
 use native.Mathlib.Omega.{arith}
-use native.Mathlib.Nat.{mod-lt, div-eq-of-lt, div-one, zero-lt-suc, zero-mul, one-mul, pow-suc}
-use native.Mathlib.Numerals.{one-add}
-use native.Mathlib.Decide.{decLt, ℕ-discrete}
+use native.Mathlib.Nat.{mod-lt, div-eq-of-lt, zero-lt-suc, zero-mul, one-mul, pow-suc}
+use native.Mathlib.Decide.{decLt}
 use mathlib.Core.Bool.{So, not, _&&_, _||_, false≢true}
 use mathlib.Core.Logic.{_⊎_, _≢_}
 use mathlib.Core.Path.{_≡_, refl, sym, ap, ap₂, subst, _∙_}
 use lib.Dec.{eqb}
 use lib.Bits.{bitAnd, bitOr, and-high, or-add-and, and-le-l, and-le-r}
-use lib.Arith.{bin-ind}
-use lib.Pow.{pow-pos, pow-mono, pow-add, pow-lt, shr-shr, high, ones-lt, ones-split}
+use lib.Pow.{pow-pos, pow-mono, pow-add, pow-lt, high, ones-lt, ones-split}
 use borrow.Author.Tests.{eq-eqb, ne-eqb, eqb-true, eqb-false, not-true}
 use Rattle.records.specs.Finite.{bit}
-use Rattle.records.proofs.General.BoolLaws.{or-left, or-right, or-true-cases, and-left, and-right}
-use Rattle.records.proofs.General.BitLaws.{word-or, word-and, word-zero, word-one}
+use Rattle.records.proofs.General.BoolLaws.{or-left, or-right, or-true-cases}
+use Rattle.records.proofs.General.BitLaws.{word-or, word-and, word-zero, word-one, and-some}
 use Rattle.chase.specs.ClassSet.{place, meets, has, full}
 
 and-place : (c A : ℕ) → bitAnd c (2 ^ A) ≡ c / 2 ^ A % 2 * 2 ^ A
@@ -112,21 +110,8 @@ meets-of c d A h k =
     nonzero-of (bitAnd c d) λ q.
     false≢true (sym (word-zero A) ∙ ap (λ (x : ℕ). bit x A) (sym q) ∙ word-and c d A ∙ ap₂ _&&_ (has-bit c A ∙ h) (has-bit d A ∙ k))
 
-some-bit : (x : ℕ) → x ≢ 0 → (A : ℕ) × So (bit x A)
-some-bit = bin-ind (λ x. x ≢ 0 → (A : ℕ) × So (bit x A)) (λ h. absurd (h refl)) step
-  where
-    step : (n : ℕ) → (n / 2 ≢ 0 → (A : ℕ) × So (bit (n / 2) A)) → n ≢ 0 → (A : ℕ) × So (bit n A)
-    step n rest h =
-        elim (ℕ-discrete (n % 2) 1) [
-          | yes y ↦ (0, eq-eqb (n / 1 % 2) 1 (ap (λ (x : ℕ). x % 2) (div-one n) ∙ y))
-          | no k ↦
-              let r = rest (omega (arith, mod-lt n (zero-lt-suc 1))) in
-              (suc (r .0), ap (λ (x : ℕ). eqb (x % 2) 1) (ap (λ (i : ℕ). n / 2 ^ i) (sym (one-add (r .0))) ∙ sym (shr-shr n 1 (r .0))) ∙ r .1)
-        ]
-
 pub meets-some : (c d : ℕ) → So (meets c d) → (A : ℕ) × So (has c A) × So (has d A)
 unfolding meets
 meets-some c d h =
-    let r = some-bit (bitAnd c d) (nonzero-is (bitAnd c d) h) in
-    let both = sym (word-and c d (r .0)) ∙ r .1 in
-    (r .0, sym (has-bit c (r .0)) ∙ and-left (bit c (r .0)) (bit d (r .0)) both, sym (has-bit d (r .0)) ∙ and-right (bit c (r .0)) (bit d (r .0)) both)
+    let (A, x, y) = and-some c d (nonzero-is (bitAnd c d) h) in
+    (A, sym (has-bit c A) ∙ x, sym (has-bit d A) ∙ y)

@@ -5,7 +5,7 @@ use mathlib.Core.List.{List}
 use mathlib.Core.Path.{_≡_, refl, ap}
 use native.Mathlib.Omega.{arith}
 use lib.Dec.{eqb, ltb}
-use borrow.Author.Tests.{ltb-true, ltb-false, eqb-true, not-false}
+use borrow.Author.Tests.{ltb-true, ltb-false, le-ltb, eqb-true, not-false}
 use Rattle.records.specs.declared.schema.Signature.{Signature}
 use Rattle.records.specs.declared.schema.Axiom.{Axiom}
 use Rattle.records.specs.declared.schema.Axiom.the-variants.{Subclass, Typing, Necessary, Single, Relates}
@@ -28,7 +28,7 @@ use Rattle.records.specs.StateRefusal.{faultyFact, ascends, descends, na
 use Rattle.records.specs.Helpers.Steps.{conceptSteps}
 use Rattle.records.specs.Helpers.Reading.{startOf, HasConcept, stepToken, stepNumber}
 use Rattle.records.specs.Helpers.InRange.{AxiomInRange, TokenInRange}
-use Rattle.records.proofs.General.BoolLaws.{or-false-left, or-false-right, and-map, and-three-map, none-of-four}
+use Rattle.records.proofs.General.BoolLaws.{or-false, or-false-left, or-false-right, and-map, and-three-map, none-of-four}
 use Rattle.records.proofs.General.FiniteLaws.{any-none}
 use Rattle.records.proofs.ReadingLaws.{number-concept, whole-concept}
 
@@ -71,6 +71,16 @@ module _ (limit : ℕ) (s : Signature) (w : List ℕ) (ok : AcceptedConcept limi
 
   pub passes-6 : refusal-6 limit w ≡ false
   passes-6 = passes-concept .3
+
+  -- under a larger limit too: a view is a query
+  pub accepted-wider : (more : ℕ) → limit ≤ more → AcceptedConcept more s w
+  unfolding conceptAnswer refusal-6
+  accepted-wider more h = rw (passes-3, passes-4, passes-5, six) refl
+    where
+      six : refusal-6 more w ≡ false
+      six =
+          let z = or-false (not (eqb (steps w) (sizeAt w 1))) (ltb limit (steps w)) passes-6 in
+          rw (z .0, le-ltb more (steps w) (omega (arith, ltb-false limit (steps w) (z .1)))) refl
 
 module _ (s : Signature) (w : List ℕ) where
   pub faultless-state : stateNumber (stateAnswer s w) ≡ 0

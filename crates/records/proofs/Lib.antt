@@ -2,11 +2,13 @@
 pub mod General
 pub mod ExecutableLaws
 pub mod NamesLaws
+pub mod SubsumptionLaws
 pub mod EncodingLaws
 pub mod RefusalLaws
 pub mod OutcomeLaws
 pub mod AcceptedLaws
 pub mod NamedLaws
+pub mod CatalogueLaws
 pub mod ConceptScanLaws
 pub mod StateScanLaws
 pub mod FactLaws

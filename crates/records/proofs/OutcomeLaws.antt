@@ -48,6 +48,17 @@ unfolding firstRefusal
 first-among [] numbers p = refl
 first-among (m ∷ passed) numbers p = rw (p .0) (first-among passed numbers (p .1))
 
+-- a refusal stays the first, whatever comes after it
+pub first-stays : (l m : List ℕ) → (firstRefusal l ≡ 0 → ⊥) → firstRefusal (l ++ m) ≡ firstRefusal l
+unfolding firstRefusal
+first-stays [] m h = absurd (h refl)
+first-stays (n ∷ l) m h = pick (eqb n 0) h (first-stays l m)
+  where
+    pick : (b : Bool) → (cond b (firstRefusal l) n ≡ 0 → ⊥) → ((firstRefusal l ≡ 0 → ⊥) → firstRefusal (l ++ m) ≡ firstRefusal l)
+        → cond b (firstRefusal (l ++ m)) n ≡ cond b (firstRefusal l) n
+    pick true h rest = rest h
+    pick false h rest = refl
+
 pub first-single : (n : ℕ) → firstRefusal (n ∷ []) ≡ n
 unfolding firstRefusal
 first-single n = pick (eqb n 0) refl
@@ -137,7 +148,12 @@ state-not-accepted of-state.BadFact t = refl
 state-not-accepted of-state.BadOrder t = refl
 state-not-accepted of-state.BadConstants t = refl
 
--- What an entry returns of a check that does not accept: by the answer's number, the answer, and that it is not "accepted".
+-- What is returned of a check that does not accept: by the answer's number, the answer, and that it is not "accepted".
+pub concept-refused : (limit : ℕ) (s : Signature) (w : List ℕ) {n : ℕ} {a : ConceptAnswer} → n ≡ conceptNumber a → a ≡ conceptAnswer limit s w
+    → OneOf (1 ∷ 2 ∷ 3 ∷ 4 ∷ []) (tagOf Concept.the-type a) → Turned n (conceptNumber (conceptAnswer limit s w))
+concept-refused limit s w {a = a} e q t = (e ∙ ap conceptNumber q, rw q at (concept-not-accepted a t))
+
+-- .. by an entry, which has the signature from the schema's check
 module _ (schema : List ℕ) where
   pub schema-turned : {n : ℕ} {a : SchemaAnswer} → n ≡ schemaNumber a → a ≡ schemaAnswer schema → OneOf (1 ∷ 2 ∷ []) (tagOf Schema.the-type a)
       → Turned n (schemaRefusal schema)
@@ -146,7 +162,7 @@ module _ (schema : List ℕ) where
   module _ (w : List ℕ) {s : Signature} (z : s ≡ signatureOf schema) where
     pub concept-turned : (limit : ℕ) {n : ℕ} {a : ConceptAnswer} → n ≡ conceptNumber a → a ≡ conceptAnswer limit s w
         → OneOf (1 ∷ 2 ∷ 3 ∷ 4 ∷ []) (tagOf Concept.the-type a) → Turned n (conceptNumber (conceptAnswer limit (signatureOf schema) w))
-    concept-turned limit {a = a} e q t = (rw (e, q, z), rw (q, z) at (concept-not-accepted a t))
+    concept-turned limit e q t = rw z at (concept-refused limit s w e q t)
 
     pub state-turned : {n : ℕ} {a : StateAnswer} → n ≡ stateNumber a → a ≡ stateAnswer s w
         → OneOf (1 ∷ 2 ∷ 3 ∷ 4 ∷ []) (tagOf State.the-type a) → Turned n (stateRefusal schema w)

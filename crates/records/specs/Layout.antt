@@ -60,6 +60,9 @@ querySteps = 16
 abbrev pub viewSteps : ℕ
 viewSteps = 6
 
+abbrev pub maxViews : ℕ
+maxViews = 16
+
 abbrev pub maxObjects : ℕ
 maxObjects = 480
 

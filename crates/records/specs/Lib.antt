@@ -12,8 +12,9 @@ pub mod SchemaRecord
 pub mod ConceptRecord
 pub mod StateRecord
 pub mod Encoding
--- What a concept names (document 02).
+-- What a concept names, and views in a catalogue (document 02).
 pub mod Named
+pub mod CatalogueRecord
 -- Turned back, in checking order.
 pub mod Shape
 pub mod SchemaRefusal
@@ -21,6 +22,7 @@ pub mod ConceptRefusal
 pub mod StateRefusal
 pub mod Outcome
 pub mod Check
+pub mod CatalogueRefusal
 -- The semantics as tests that compute: the judge's answers are functions of the words by these (its specs/Exact.antt says what
 -- they mean).
 pub mod Executable

@@ -1,6 +1,7 @@
 // Records of words, the checks that turn them back or tell what a concept names, and the writer of a state: document 01,
 // "Records" and "Turned back", and document 02, note 2.
 // Every reading function takes arbitrary words. What the records mean is in specs/.
+pub mod catalogue;
 pub mod check;
 pub mod concept;
 pub mod layout;

@@ -1,16 +1,20 @@
--- The bits of one number: of a union, of an intersection, of 0 and of a number with one bit.
+-- The bits of one number: of a union, of an intersection, of 0 and of a number with one bit; and of a number that is not 0.
 -- A shift passes through a union or an intersection, so that only the lowest digits are left to compare.
 use Prim.Native.Nat.{ℕ, zero, suc, _+_, _-_, _/_, _%_, _^_, _<_, min, max}
-use mathlib.Core.Bool.{Bool, true, false, _&&_, _||_}
-use mathlib.Core.Path.{_≡_, refl, ap, _∙_}
-use native.Mathlib.Nat.{zero-div, div-eq-of-lt, div-self}
-use native.Mathlib.Decide.{decLt}
+use mathlib.Core.Bool.{Bool, true, false, So, _&&_, _||_}
+use mathlib.Core.Logic.{_≢_}
+use mathlib.Core.Path.{_≡_, refl, sym, ap, _∙_}
+use native.Mathlib.Nat.{zero-div, div-eq-of-lt, div-one, div-self, mod-lt, zero-lt-suc}
+use native.Mathlib.Numerals.{one-add}
+use native.Mathlib.Decide.{decLt, ℕ-discrete}
 use native.Mathlib.Omega.{arith}
 use borrow.Author.Tests.{eq-eqb, ne-eqb}
 use lib.Bits.{bitAnd, bitOr, and-step, or-step, and-shr, or-shr}
+use lib.Arith.{bin-ind}
 use lib.Dec.{eqb}
-use lib.Pow.{pow-add, pow-lt, pow-pos, shl-shr}
+use lib.Pow.{pow-add, pow-lt, pow-pos, shl-shr, shr-shr}
 use Rattle.records.specs.Finite.{bit}
+use Rattle.records.proofs.General.BoolLaws.{and-parts}
 
 -- An operation through which a shift passes does to the bits what it does to the lowest digits.
 module _ (op low : ℕ → ℕ → ℕ) (on : Bool → Bool → Bool)
@@ -56,3 +60,23 @@ word-one b k = pick (decLt k b) (decLt b k)
     pick (yes l) d = let e : b ≡ suc (b - suc k) + k = omega arith in other (λ q. omega arith) (rw e (even (b - suc k)))
     pick (no m) (yes l) = other (λ q. omega arith) (rw (div-eq-of-lt (pow-lt l)))
     pick (no m) (no l) = let e : k ≡ b = omega arith in rw (eq-eqb k b e, e, div-self (pow-pos b))
+
+-- a number that is not 0 has a bit
+some-bit : (x : ℕ) → x ≢ 0 → (A : ℕ) × So (bit x A)
+some-bit = bin-ind (λ x. x ≢ 0 → (A : ℕ) × So (bit x A)) (λ h. absurd (h refl)) step
+  where
+    step : (n : ℕ) → (n / 2 ≢ 0 → (A : ℕ) × So (bit (n / 2) A)) → n ≢ 0 → (A : ℕ) × So (bit n A)
+    step n rest h =
+        elim (ℕ-discrete (n % 2) 1) [
+          | yes y ↦ (0, eq-eqb (n / 1 % 2) 1 (ap (λ (x : ℕ). x % 2) (div-one n) ∙ y))
+          | no k ↦
+              let r = rest (omega (arith, mod-lt n (zero-lt-suc 1))) in
+              (suc (r .0), ap (λ (x : ℕ). eqb (x % 2) 1) (ap (λ (i : ℕ). n / 2 ^ i) (sym (one-add (r .0))) ∙ sym (shr-shr n 1 (r .0))) ∙ r .1)
+        ]
+
+-- two numbers whose intersection is not 0 share a bit
+pub and-some : (x y : ℕ) → bitAnd x y ≢ 0 → (k : ℕ) × So (bit x k) × So (bit y k)
+and-some x y h =
+    let (k, e) = some-bit (bitAnd x y) h in
+    let both = and-parts (bit x k) (bit y k) (sym (word-and x y k) ∙ e) in
+    (k, both .0, both .1)

@@ -1,16 +1,17 @@
 -- Sets as numbers (setOf of Finite.antt): the set of none and of one, union, what is in a set, and how many are.
 use Prim.Native.Nat.{ℕ, zero, suc, _+_, _*_, _^_, _≤_, _<_}
-use mathlib.Core.Bool.{Bool, true, false, So, cond, _||_, false≢true}
+use mathlib.Core.Bool.{Bool, true, false, So, cond, _&&_, _||_, false≢true}
 use mathlib.Core.Logic.{_↔_}
 use mathlib.Core.Path.{_≡_, refl, sym, ap, ap₂, _∙_}
 use native.Mathlib.Decide.{ℕ-discrete, decLt}
 use native.Mathlib.Nat.{zero-mul, one-mul, pow-suc}
 use native.Mathlib.Omega.{arith}
-use borrow.Author.Tests.{eq-eqb, ne-eqb}
+use borrow.Author.Tests.{eq-eqb, ne-eqb, lt-ltb, le-ltb}
 use lib.Bits.{bitOr, or-self, or-zero-l, or-zero-r, or-block, or-shifted}
 use lib.Count.{ones, ones-cat}
-use lib.Dec.{eqb}
+use lib.Dec.{eqb, ltb}
 use Rattle.records.specs.Finite.{count, sum, bit, setOf}
+use Rattle.records.proofs.General.SumLaws.{sum-turn}
 use Rattle.records.proofs.General.BitLaws.{word-or, word-zero, word-one}
 
 module _ (f : ℕ → Bool) where
@@ -83,6 +84,14 @@ module _ (f : ℕ → Bool) where
       other true = refl
       other false = refl
 
+  -- any digit
+  pub set-digit : (n k : ℕ) → bit (setOf n f) k ≡ (ltb k n && f k)
+  set-digit n k =
+      elim (decLt k n) [
+        | yes l ↦ set-bit n k l ∙ sym (rw (lt-ltb k n l) refl)
+        | no m ↦ set-past n k (omega arith) ∙ sym (rw (le-ltb k n (omega arith)) refl)
+      ]
+
   -- what the set says, where nothing past n is asked
   pub set-iff : (X : ℕ → Type 0) (n : ℕ) → ((k : ℕ) → So (f k) ↔ X k) → ((k : ℕ) → X k → k < n) → (k : ℕ) → So (bit (setOf n f) k) ↔ X k
   set-iff X n h below k =
@@ -102,6 +111,11 @@ module _ (f : ℕ → Bool) where
       pick : (b : Bool) → ones (cond b 1 0) + count n f ≡ cond b (suc (count n f)) (count n f)
       pick true = omega arith
       pick false = omega arith
+
+-- a loop that adds the next number's digit goes on
+pub set-turn : (f : ℕ → Bool) (n : ℕ) {s x : ℕ} → s ≡ setOf n f → x ≡ cond (f n) (2 ^ n) 0 → s + x ≡ setOf (n + 1) f
+unfolding setOf
+set-turn f n = sum-turn (λ k. cond (f k) (2 ^ k) 0) n
 
 -- union
 pub set-or : (f g : ℕ → Bool) (n : ℕ) → setOf n (λ k. f k || g k) ≡ bitOr (setOf n f) (setOf n g)
