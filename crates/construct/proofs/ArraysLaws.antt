@@ -12,6 +12,7 @@ use Rattle.records.specs.SchemaRecord.{signatureOf, schemaOf}
 use Rattle.records.specs.ConceptRecord.{conceptOf}
 use Rattle.records.proofs.General.FiniteLaws.{count-le}
 use Rattle.records.specs.Helpers.Steps.{conceptSteps}
+use Rattle.records.specs.Helpers.Triple.{Triple}
 use Rattle.chase.specs.Task.{startNode, nodes, asked, taskOf}
 use Rattle.chase.specs.Primary.{primary, clash}
 use Rattle.chase.specs.Ground.{live, ground}
@@ -38,7 +39,7 @@ use Rattle.candidate.specs.Ready.{Ready}
 use Rattle.candidate.specs.declared.number.Sizes.{Sizes}
 use Rattle.candidate.proofs.AgreeLaws.{objects-are, objects-few, facts-are}
 use Rattle.construct.specs.declared.Made.{Made}
-use Rattle.construct.specs.Arrays.{Triple, constantsFrom, Arrays, Built}
+use Rattle.construct.specs.Arrays.{constantsFrom, Arrays, Built}
 use Rattle.construct.specs.Closed.{Pair, Closed, Laid}
 
 pub pair-of : {s q v : List ℕ} → Triple s q v → Pair s q

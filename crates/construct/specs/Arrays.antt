@@ -5,10 +5,8 @@ use mathlib.Core.List.{List}
 use mathlib.Core.Bool.{false}
 use mathlib.Core.Path.{_≡_}
 use lib.ListN.{length}
-use Rattle.records.specs.Layout.{querySteps, viewSteps, maxTokens}
+use Rattle.records.specs.Layout.{querySteps, maxTokens}
 use Rattle.records.specs.SchemaRecord.{signatureOf}
-use Rattle.records.specs.SchemaRefusal.{AcceptedSchema}
-use Rattle.records.specs.ConceptRefusal.{AcceptedConcept}
 use Rattle.chase.specs.Task.{Task, taskOf}
 use Rattle.chase.specs.Primary.{clash}
 use Rattle.chase.specs.Ground.{ground}
@@ -20,12 +18,6 @@ use Rattle.candidate.specs.declared.number.Sizes.{Sizes}
 use Rattle.candidate.specs.Facts.{factsIn}
 use Rattle.candidate.specs.Ready.{Ready}
 use Rattle.construct.specs.declared.Made.{Made}
-
--- an accepted schema, query and view
-pub record Triple (schema query view : List ℕ) : Type 0 where
-  pub schema-accepted : AcceptedSchema schema
-  pub query-accepted : AcceptedConcept querySteps (signatureOf schema) query
-  pub view-accepted : AcceptedConcept viewSteps (signatureOf schema) view
 
 -- where the constants' nodes begin; the start's node stands before them
 abbrev pub constantsFrom : List ℕ → List ℕ → ℕ

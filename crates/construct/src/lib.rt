@@ -19,6 +19,7 @@ ghost use mathlib.Core.Path.{_≡_};
 ghost use Prim.Native.Nat.{_≤_};
 ghost use lib.ListN.{length};
 ghost use Rattle.records.specs.Layout.{maxTokens, maxObjects};
+ghost use Rattle.records.specs.Helpers.Triple.{Triple};
 ghost use Rattle.chase.specs.Task.{taskOf, nodes as nodesOf};
 ghost use Rattle.chase.specs.Primary.{primary};
 ghost use Rattle.primary.specs.Formed.{Becomes};
@@ -26,7 +27,7 @@ ghost use Rattle.primary.specs.Asked.{queryTask};
 ghost use Rattle.asked.specs.declared.words.Kind.the-variants.{Members, Equations, Edges};
 ghost use Rattle.asked.specs.Listed.{listed as wordsIn};
 ghost use Rattle.asked.specs.Answer.{Asked};
-ghost use Rattle.construct.specs.Arrays.{Triple, Arrays, Built};
+ghost use Rattle.construct.specs.Arrays.{Arrays, Built};
 ghost use Rattle.construct.specs.Closed.{Pair, Nodes, Closed};
 
 // The nodes of the largest query: its steps, the start and the constants.

@@ -18,6 +18,7 @@ use Rattle.records.specs.SchemaRecord.{signatureOf, schemaOf}
 use Rattle.records.specs.ConceptRecord.{conceptOf}
 use Rattle.records.specs.StateRecord.{stateOf}
 use Rattle.records.specs.StateRefusal.{AcceptedState}
+use Rattle.records.specs.Helpers.Triple.{Triple}
 use Rattle.records.proofs.General.BoolLaws.{not-both}
 use Rattle.records.proofs.ExecutableLaws.{isIn-iff}
 use Rattle.chase.specs.Task.{Task, taskOf}
@@ -28,7 +29,7 @@ use Rattle.chase.proofs.Judged.{clash-judged, written-fits, start-small, start-
 use Rattle.chase.proofs.AcceptanceLaws.{Within, accepted-within}
 use Rattle.chase.proofs.WrittenLaws.{facts-few, written-length, written-size}
 use Rattle.candidate.specs.declared.number.Sizes.{Sizes}
-use Rattle.construct.specs.Arrays.{Triple, startIn, listing, Arrays}
+use Rattle.construct.specs.Arrays.{startIn, listing, Arrays}
 use Rattle.decide.specs.declared.DecideAnswer.the-variants as answers
 use Rattle.decide.specs.Decision.{Shown, Verdict}
 use Rattle.decide.specs.Start.{startInside, startAnswer, startWords, Judged, Listable, Told}

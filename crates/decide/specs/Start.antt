@@ -1,6 +1,6 @@
 -- What contracts of helper functions cite: the answer by the start of the candidate, which is given by its facts.
 use Prim.Native.Nat.{ℕ, _≤_, _<_, _^_}
-use mathlib.Core.Bool.{Bool, cond, _||_}
+use mathlib.Core.Bool.{Bool, true, false, cond, _||_}
 use mathlib.Core.List.{List, _++_}
 use mathlib.Core.Logic.{_↔_, _⊎_}
 use mathlib.Core.Path.{_≡_}
@@ -21,8 +21,6 @@ use Rattle.candidate.specs.Ready.{Ready}
 use Rattle.construct.specs.Arrays.{constantsFrom, startIn, listing}
 use Rattle.decide.specs.declared.DecideAnswer.{DecideAnswer}
 use Rattle.decide.specs.declared.DecideAnswer.the-variants as answers
-use Rattle.decide.specs.declared.holds.HoldsAnswer.{HoldsAnswer}
-use Rattle.decide.specs.declared.holds.HoldsAnswer.the-variants as holds
 
 module _ (view : List ℕ) (n start : ℕ) (facts : List ℕ) where
   -- the start is in the view
@@ -58,7 +56,7 @@ pub record Told (schema query view : List ℕ) (answer : DecideAnswer) : Type 0 
   pub is-held : (answer ≡ answers.Held) ↔ Held (schemaOf schema) (conceptOf query) (conceptOf view)
   pub is-open : ((n d : ℕ) × (answer ≡ answers.Open n d)) ↔ Open (schemaOf schema) (conceptOf query) (conceptOf view)
 
-abbrev pub holdsBy : DecideAnswer → HoldsAnswer
-holdsBy answers.Held = holds.Held
-holdsBy (answers.Open n d) = holds.Open
-holdsBy (answers.Refused number) = holds.Refused number
+abbrev pub isHeld : DecideAnswer → Bool
+isHeld answers.Held = true
+isHeld (answers.Open n d) = false
+isHeld (answers.Refused number) = false

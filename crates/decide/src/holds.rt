@@ -1,31 +1,18 @@
 // Holds: whether in every legal state each object in the query is in the view, without the state that shows it is not. Arbitrary
 // words are taken; faulty records are refused by number.
-use crate::DecideAnswer;
-use crate::verdict::answer;
+use crate::held::held;
 use records::concept::ConceptAnswer;
 use records::concept::check_query;
 use records::concept::check_view;
 use records::schema::SchemaAnswer;
 use records::schema::check_schema;
-ghost use mathlib.Core.Path.{_≡_};
 ghost use Rattle.decide.specs.Holding.{Holding};
-ghost use Rattle.decide.specs.Start.{holdsBy};
 
 pub enum HoldsAnswer {
     Held,
     Open,
     // The number of the first refusal that applies.
     Refused(u16),
-}
-
-fn holds_by(answer: DecideAnswer) -> HoldsAnswer
-    ensures { λ r. ⌜ r ≡ holdsBy answer ⌝ }
-{
-    match answer {
-        DecideAnswer::Held => HoldsAnswer::Held,
-        DecideAnswer::Open(_, _) => HoldsAnswer::Open,
-        DecideAnswer::Refused(number) => HoldsAnswer::Refused(number),
-    }
 }
 
 pub fn holds(schema: &[u16], query: &[u16], view: &[u16]) -> HoldsAnswer
@@ -43,7 +30,9 @@ pub fn holds(schema: &[u16], query: &[u16], view: &[u16]) -> HoldsAnswer
     let ConceptAnswer::Accepted(_) = stored else {
         return HoldsAnswer::Refused(stored.number());
     };
-    // No words are lent, so that no state is written.
-    let mut none = [0u16; 1];
-    holds_by(answer(schema, query, view, &mut none))
+    if held(schema, query, view) {
+        HoldsAnswer::Held
+    } else {
+        HoldsAnswer::Open
+    }
 }

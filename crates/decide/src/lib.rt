@@ -9,6 +9,7 @@ use records::schema::check_schema;
 use records::state::STATE_WORDS;
 ghost use Rattle.decide.specs.Decision.{Decision};
 
+pub mod held;
 pub mod holds;
 mod start;
 mod verdict;

@@ -17,10 +17,11 @@ ghost use mathlib.Core.Path.{_≡_};
 ghost use Prim.Native.Nat.{_≤_};
 ghost use lib.ListN.{length};
 ghost use Rattle.records.specs.Layout.{maxStateWords};
+ghost use Rattle.records.specs.Helpers.Triple.{Triple};
 ghost use Rattle.chase.specs.Task.{nodes as nodesOf};
 ghost use Rattle.chase.specs.Primary.{clash};
 ghost use Rattle.primary.specs.Asked.{queryTask};
-ghost use Rattle.construct.specs.Arrays.{Triple, startIn, listing};
+ghost use Rattle.construct.specs.Arrays.{startIn, listing};
 ghost use Rattle.decide.specs.Decision.{Verdict};
 ghost use Rattle.decide.specs.Start.{startAnswer, startWords, Told, Listable};
 

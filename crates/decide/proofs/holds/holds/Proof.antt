@@ -1,6 +1,7 @@
--- Each return is by the first refusal that applies (OutcomeLaws of records), or by decide's word on accepted records (HoldingLaws).
+-- Each return is by the first refusal that applies (OutcomeLaws of records), or by what accepted records are told (HoldingLaws).
 use Prim.Native.Nat.{ℕ}
 use borrow.Author.Needs.{needs}
+use mathlib.Core.Bool.{cond}
 use mathlib.Core.List.{List, [], _∷_}
 use mathlib.Core.Path.{_≡_, refl, sym, _∙_}
 use Rattle.records.specs.Layout.{querySteps, viewSteps}
@@ -9,6 +10,8 @@ use Rattle.records.specs.SchemaRefusal.{AcceptedSchema}
 use Rattle.records.specs.ConceptRefusal.{AcceptedConcept}
 use Rattle.records.specs.Outcome.{schemaRefusal, queryRefusal}
 use Rattle.records.proofs.OutcomeLaws.{schema-turned, concept-turned, schema-signature, concept-known, schema-passed, query-passed, view-passed}
+use Rattle.decide.specs.declared.holds.HoldsAnswer.the-variants as holds
+use Rattle.decide.specs.Holding.{Holding}
 use Rattle.decide.proofs.HoldingLaws.{holds-decided, holds-refused}
 use Rattle.decide.proofs.holds.holds.Statement.{statement}
 use Rattle.decide.proofs.holds.holds.Tie as tie
@@ -84,29 +87,27 @@ returns-3 c =
     (schema-passed _ (accepted-schema k .1), (query-passed _ _ (accepted-query (c .before .before .before)), tt))
     (concept-turned (S k) (W k) (accepted-schema k .0) viewSteps (c .number3 .ensures) (c .before .before .check-view .ensures) (c .before .match3 .keys2)) refl
 
-slice-aggregate-answer : tie.Need-slice-aggregate-answer
-slice-aggregate-answer c = search needs
-
-answer-requires : tie.Need-answer-requires
-answer-requires c κs =
-    let e = c .before in
+held-requires : tie.Need-held-requires
+held-requires c κs =
     record {
-      schema-accepted = accepted-schema (known e) .1;
-      query-accepted = accepted-query (e .before .before .before);
-      view-accepted = accepted-view e;
+      schema-accepted = accepted-schema (known c) .1;
+      query-accepted = accepted-query (c .before .before .before);
+      view-accepted = accepted-view c;
     }
 
-holds-by-requires : tie.Need-holds-by-requires
-holds-by-requires c κs = tt
+decided : (c : tie.After-held) → Holding (S (known (c .before))) (Q (known (c .before))) (W (known (c .before))) (cond (c .held .result) holds.Held holds.Open)
+decided c =
+    let e = c .before in
+    let k = known e in
+    holds-decided (S k) (Q k) (W k)
+    (schema-passed _ (accepted-schema k .1), (query-passed _ _ (accepted-query (e .before .before .before)), (view-passed _ _ (accepted-view e), tt)))
+    (c .held .result) (c .held .ensures)
 
 returns-4 : tie.Need-returns-4
-returns-4 c =
-    let e = c .before .before .before .before in
-    let k = known e in
-    rw (c .holds-by .ensures)
-    (holds-decided (S k) (Q k) (W k)
-    (schema-passed _ (accepted-schema k .1), (query-passed _ _ (accepted-query (e .before .before .before)), (view-passed _ _ (accepted-view e), tt))) _
-    (c .before .before .answer .ensures .0))
+returns-4 c = rw (c .if1 .taken) at (decided (c .before))
+
+returns-5 : tie.Need-returns-5
+returns-5 c = rw (c .if1 .left) at (decided (c .before))
 
 pub holds-spec : {M : Type 1} → statement M
 holds-spec =
@@ -124,7 +125,6 @@ holds-spec =
     enum-told-2
     number-requires-3
     returns-3
-    slice-aggregate-answer
-    answer-requires
-    holds-by-requires
-    returns-4)
+    held-requires
+    returns-4
+    returns-5)
