@@ -1,7 +1,8 @@
-//! The nine calls, on records of any words and on built ones.
+//! The ten calls, on records of any words and on built ones.
 
+use crate::catalogued::Catalogued;
 use crate::concept::{Query, View};
-use crate::layout::{DECIDE_WORDS, MAX_OBJECTS, STATE};
+use crate::layout::{self, DECIDE_WORDS, MAX_OBJECTS, STATE};
 use crate::named::Named;
 use crate::raw;
 use crate::refusal::Refusal;
@@ -155,6 +156,19 @@ pub fn holds(schema: &[u16], query: &[u16], view: &[u16]) -> Result<bool, Refusa
     Ok(held == 1)
 }
 
+/// Which views of a catalogue are held by which, and the groups of those that are
+/// held by each other, narrower ones first.
+pub fn catalogue(schema: &[u16], views: &[u16]) -> Result<Catalogued, Refusal> {
+    let mut answer = Catalogued::default();
+    let Catalogued {
+        rows,
+        order,
+        groups,
+    } = &mut answer;
+    Refusal::check(raw::catalogue(schema, views, rows, order, groups))?;
+    Ok(answer)
+}
+
 /// An out value that is an object; all objects are far below a word's limit.
 fn object(number: u64) -> Object {
     Object(number as u16)
@@ -228,5 +242,13 @@ impl Schema {
     /// Whether [`Schema::decide`] says [`Decision::Held`].
     pub fn holds(&self, query: &Query, view: &View) -> Result<bool, Refusal> {
         holds(self.words(), query.words(), view.words())
+    }
+
+    /// Which views are held by which, and an order in which narrower ones come
+    /// first. The views are numbered as they stand in the slice. None, or more
+    /// than [`layout::MAX_VIEWS`], are refused.
+    pub fn catalogue(&self, views: &[View]) -> Result<Catalogued, Refusal> {
+        let views: Vec<&[u16]> = views.iter().map(View::words).collect();
+        catalogue(self.words(), &layout::catalogue(&views))
     }
 }

@@ -5,6 +5,7 @@
 //! A record is a few size words and then two arrays of equal length, the left
 //! words and the right words. A left word and the right word at the same place
 //! are an entry: an axiom of a schema, a token of a concept, a fact of a state.
+//! A catalogue is another sort of record: the records of several views.
 //!
 //! Nothing here panics. A number too large for its part of a word spills into
 //! its neighbour, and the library judges the record that comes of it.
@@ -21,6 +22,8 @@ pub const MAX_TOKENS: usize = 64;
 pub const QUERY_STEPS: usize = 16;
 /// The most steps of a view.
 pub const VIEW_STEPS: usize = 6;
+/// The most views of a catalogue.
+pub const MAX_VIEWS: usize = 16;
 pub const MAX_OBJECTS: u16 = 480;
 /// Each object in every class and once the first of a pair of every attribute,
 /// a pair for each step of a query, and a name for each constant.
@@ -151,6 +154,30 @@ pub fn state(objects: u16, facts: &[Pair]) -> Vec<u16> {
 /// How many objects a state record has, if it says so.
 pub fn objects(state: &[u16]) -> Option<u16> {
     state.first().copied()
+}
+
+/// A catalogue record: how many views there are, the length of each in words, and
+/// then their records.
+pub fn catalogue<V: AsRef<[u16]>>(views: &[V]) -> Vec<u16> {
+    let views = views.iter().map(AsRef::as_ref);
+    let mut words = vec![views.len() as u16];
+    words.extend(views.clone().map(|view| view.len() as u16));
+    words.extend(views.flatten());
+    words
+}
+
+/// The records of a catalogue's views, if its length fits their count and their
+/// lengths; there may be too many of them, and each may be faulty.
+pub fn views(catalogue: &[u16]) -> Option<Vec<&[u16]>> {
+    let (&count, rest) = catalogue.split_first()?;
+    let (lengths, mut rest) = rest.split_at_checked(count.into())?;
+    let mut views = Vec::new();
+    for &length in lengths {
+        let (view, later) = rest.split_at_checked(length.into())?;
+        views.push(view);
+        rest = later;
+    }
+    rest.is_empty().then_some(views)
 }
 
 /// A word of two numbers, the second of which is below `part`.

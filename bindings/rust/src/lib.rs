@@ -28,6 +28,13 @@
 //! let named = schema.check_view(&view).expect("a view of this schema");
 //! let classes = named.classes().filter_map(|class| schema.class_name(class));
 //! assert!(classes.eq(["Person", "Strap"]));
+//!
+//! // Views in order: a view is looked at before those that have all its objects.
+//! let rowers = View::new(&schema, &Concept::class(rower))?;
+//! let everybody = View::new(&schema, &Concept::class(person))?;
+//! let catalogued = schema.catalogue(&[everybody, view, rowers]);
+//! let catalogued = catalogued.expect("views of this schema");
+//! assert!(catalogued.in_order().eq([[2], [1], [0]]));
 //! # Ok(())
 //! # }
 //! ```
@@ -50,10 +57,10 @@
 //! [`SchemaBuilder`], [`Query`], [`View`] and [`StateBuilder`] make records that
 //! it accepts; what cannot be is a [`BuildError`]. The functions
 //! [`check_concept`], [`check_view`], [`select`], [`legal`], [`counterexample`],
-//! [`links_by_first`], [`links_by_second`], [`decide`] and [`holds`] take any
-//! words; a faulty record, or an attribute that is not declared, is a [`Refusal`].
-//! [`raw`] has the nine calls as C has them, and [`layout`] the numbers of the
-//! format.
+//! [`links_by_first`], [`links_by_second`], [`decide`], [`holds`] and [`catalogue`]
+//! take any words; a faulty record, or an attribute that is not declared, is a
+//! [`Refusal`]. [`raw`] has the ten calls as C has them, and [`layout`] the numbers
+//! of the format.
 //!
 //! # Linking
 //!
@@ -75,6 +82,7 @@ pub mod layout;
 pub mod raw;
 
 mod calls;
+mod catalogued;
 mod concept;
 mod error;
 mod named;
@@ -82,8 +90,11 @@ mod refusal;
 mod schema;
 mod state;
 
-pub use calls::{check_concept, check_view, counterexample, decide, holds, legal, select};
+pub use calls::{
+    catalogue, check_concept, check_view, counterexample, decide, holds, legal, select,
+};
 pub use calls::{links_by_first, links_by_second, Decision, Legality};
+pub use catalogued::Catalogued;
 pub use concept::{Concept, Path, Query, Token, View};
 pub use error::{BuildError, Item};
 pub use layout::Signature;

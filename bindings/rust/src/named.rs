@@ -27,6 +27,6 @@ impl Named {
 }
 
 /// The places of the bits that are 1, ascending.
-fn numbers(set: u32) -> impl Iterator<Item = u16> {
+pub(crate) fn numbers(set: u32) -> impl Iterator<Item = u16> {
     (0..u32::BITS as u16).filter(move |&place| set >> place & 1 == 1)
 }

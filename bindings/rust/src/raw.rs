@@ -1,4 +1,4 @@
-//! The nine functions as C has them (include/bikuvoa.h), on slices: any words
+//! The ten functions as C has them (include/bikuvoa.h), on slices: any words
 //! may be passed. Each returns 0, or the number of the first refusal that
 //! applies; a refused call alters no lent word and no out value.
 //!
@@ -100,6 +100,18 @@ extern "C" {
         view: *const u16,
         view_words: usize,
         held: *mut u64,
+    ) -> u16;
+
+    fn bikuvoa_catalogue(
+        schema: *const u16,
+        schema_words: usize,
+        views: *const u16,
+        views_words: usize,
+        rows: *mut u16,
+        rows_words: usize,
+        order: *mut u16,
+        order_words: usize,
+        groups: *mut u64,
     ) -> u16;
 }
 
@@ -318,6 +330,38 @@ pub fn holds(schema: &[u16], query: &[u16], view: &[u16], held: &mut u64) -> u16
             view.as_ptr(),
             view.len(),
             held,
+        )
+    }
+}
+
+/// Puts the views of a catalogue in order. Bit j of word i of `rows`, counted from
+/// the lowest, becomes 1 exactly if view i is held by view j. Views that are held
+/// by each other are a group, and `groups` becomes how many there are. Word k of
+/// `order` becomes the set of the views in group k, narrower groups before wider
+/// ones: the next is always, of those with no narrower group still to come, the
+/// one with the lowest view in it. The rest of the first
+/// [`MAX_VIEWS`](crate::layout::MAX_VIEWS) words of each becomes 0; later words
+/// are unaltered. Refused as 13 if the views are none, too many, or laid out in
+/// another way, and as 11 if `rows` or `order` has fewer words than that.
+pub fn catalogue(
+    schema: &[u16],
+    views: &[u16],
+    rows: &mut [u16],
+    order: &mut [u16],
+    groups: &mut u64,
+) -> u16 {
+    // SAFETY: as for `select`.
+    unsafe {
+        bikuvoa_catalogue(
+            schema.as_ptr(),
+            schema.len(),
+            views.as_ptr(),
+            views.len(),
+            rows.as_mut_ptr(),
+            rows.len(),
+            order.as_mut_ptr(),
+            order.len(),
+            groups,
         )
     }
 }

@@ -20,9 +20,10 @@ impl Refusal {
     pub const BAD_CONSTANTS: Refusal = Refusal(10);
     pub const FEW_LENT_WORDS: Refusal = Refusal(11);
     pub const BAD_ATTRIBUTE: Refusal = Refusal(12);
+    pub const BAD_CATALOGUE: Refusal = Refusal(13);
 
     /// The refusal with the highest number.
-    pub const LAST: Refusal = Refusal::BAD_ATTRIBUTE;
+    pub const LAST: Refusal = Refusal::BAD_CATALOGUE;
 
     /// The refusal's number, from 1 on.
     pub const fn number(self) -> u16 {
@@ -87,6 +88,9 @@ impl Refusal {
             }
             Refusal::BAD_ATTRIBUTE => {
                 "attribute: not declared"
+            }
+            Refusal::BAD_CATALOGUE => {
+                "catalogue: no view, too many, or a length that does not fit the count and the length words"
             }
             // A library later than this crate may have more of them.
             _ => "a refusal that is not known here",

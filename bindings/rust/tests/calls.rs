@@ -2,8 +2,8 @@
 //! on raw words, and threads.
 
 use bikuvoa::layout::{self, axiom, fact, token, Signature};
-use bikuvoa::{check_concept, check_view, counterexample, decide, holds, legal, raw, select};
-use bikuvoa::{links_by_first, links_by_second};
+use bikuvoa::{catalogue, check_concept, check_view, counterexample, decide, holds, legal, raw};
+use bikuvoa::{links_by_first, links_by_second, select};
 use bikuvoa::{Attribute, Class, Concept, Constant, Decision, Legality, Named, Object, Path};
 use bikuvoa::{Query, Refusal, Schema, SchemaBuilder, State, StateBuilder, View};
 
@@ -347,6 +347,7 @@ fn each_entry_refuses_each_faulty_record() {
         assert_eq!(checked(&faulty, &[]), expected);
         assert_eq!(decided(&faulty, &[], &[]), expected);
         assert_eq!(number(holds(&faulty, &[], &[])), expected);
+        assert_eq!(number(catalogue(&faulty, &[])), expected);
         assert_eq!(number(Schema::from_words(faulty)), expected);
     }
     let accepted = Schema::from_words(schema.clone()).expect("a schema");
@@ -362,6 +363,8 @@ fn each_entry_refuses_each_faulty_record() {
         assert_eq!(decided(&schema, &concept, &faulty), expected);
         assert_eq!(number(holds(&schema, &faulty, &[])), expected);
         assert_eq!(number(holds(&schema, &concept, &faulty)), expected);
+        let views = layout::catalogue(&[&concept, &faulty]);
+        assert_eq!(number(catalogue(&schema, &views)), expected);
         assert_eq!(
             number(Query::from_words(&accepted, faulty.clone())),
             expected
@@ -382,6 +385,8 @@ fn each_entry_refuses_each_faulty_record() {
     assert_eq!(checked(&schema, &concept), 0);
     assert_eq!(decided(&schema, &concept, &concept), 0);
     assert_eq!(number(holds(&schema, &concept, &concept)), 0);
+    let views = layout::catalogue(&[&concept, &concept]);
+    assert_eq!(number(catalogue(&schema, &views)), 0);
 }
 
 #[test]
@@ -484,6 +489,7 @@ fn each_refusal_has_a_text() {
         refusals.extend(legal(&schema, &faulty).err());
     }
     refusals.extend(links_by_first(&schema, &concept, &state, u16::MAX).err());
+    refusals.extend(catalogue(&schema, &[]).err());
     for refusal in refusals {
         let text = refusal.to_string();
         assert!(text.starts_with(&format!("refused as {}: ", refusal.number())));
@@ -520,18 +526,23 @@ fn a_record_of_another_schema_is_refused() {
     let decision = other.decide(&query, &view);
     assert!(matches!(decision, Decision::Refused(_)), "{decision:?}");
     assert_eq!(number(other.holds(&query, &view)), 4);
+    assert_eq!(number(other.catalogue(&[view])), 4);
 }
 
 /// A thread with just the stack that is said to be enough decides a deep query
-/// of all the steps that there may be, counts links, and tells what is named.
+/// of all the steps that there may be, counts links, tells what is named, and puts
+/// views of all the steps that there may be in order.
 #[test]
 fn the_stack_is_enough() {
     let schema = straps().build();
-    let mut nested = Concept::class(STRAP);
-    for _ in 0..layout::QUERY_STEPS {
-        nested = Concept::reached(Path::empty().forward(WEARS, nested));
+    let mut nested = vec![Concept::class(STRAP)];
+    for steps in 0..layout::QUERY_STEPS {
+        let landing = nested[steps].clone();
+        nested.push(Concept::reached(Path::empty().forward(WEARS, landing)));
     }
-    let query = Query::new(&schema, &nested).expect("a query");
+    let query = Query::new(&schema, &nested[layout::QUERY_STEPS]).expect("a query");
+    let deepest = View::new(&schema, &nested[layout::VIEW_STEPS]).expect("a view");
+    let views = vec![deepest; layout::MAX_VIEWS];
     let view = View::new(&schema, &Concept::class(STRAP)).expect("a view");
     let state = worn(&schema);
     std::thread::scope(|scope| {
@@ -544,6 +555,8 @@ fn the_stack_is_enough() {
             assert_eq!(schema.links_by_second(&query, &state, WEARS), Ok(0));
             let count = schema.check_concept(&query).map(|named| named.count);
             assert_eq!(count, Ok(1));
+            let groups = schema.catalogue(&views).map(|order| order.groups);
+            assert_eq!(groups, Ok(1));
         };
         let thread = small.spawn_scoped(scope, calls).expect("a thread");
         thread.join().expect("the answers");
@@ -560,6 +573,7 @@ fn threads_decide_alike() {
     let person = Query::from(view.clone());
     let alone = schema.decide(&person, &turned);
     assert!(matches!(alone, Decision::Open { .. }), "{alone:?}");
+    let views = [view.clone(), turned.clone()];
     std::thread::scope(|scope| {
         for _ in 0..4 {
             scope.spawn(|| {
@@ -568,6 +582,8 @@ fn threads_decide_alike() {
                     assert_eq!(schema.decide(&person, &turned), alone);
                     assert_eq!(schema.holds(&query, &view), Ok(true));
                     assert_eq!(schema.holds(&person, &turned), Ok(false));
+                    let catalogued = schema.catalogue(&views).expect("an order");
+                    assert!(catalogued.in_order().eq([[1], [0]]));
                 }
             });
         }

@@ -6,7 +6,7 @@ use bikuvoa::{raw, Refusal};
 use std::collections::BTreeMap;
 
 /// Each refusal by the header's name.
-const REFUSALS: [(&str, Refusal); 12] = [
+const REFUSALS: [(&str, Refusal); 13] = [
     ("BAD_SCHEMA_SHAPE", Refusal::BAD_SCHEMA_SHAPE),
     ("BAD_AXIOM", Refusal::BAD_AXIOM),
     ("BAD_CONCEPT_SHAPE", Refusal::BAD_CONCEPT_SHAPE),
@@ -19,6 +19,7 @@ const REFUSALS: [(&str, Refusal); 12] = [
     ("BAD_CONSTANTS", Refusal::BAD_CONSTANTS),
     ("FEW_LENT_WORDS", Refusal::FEW_LENT_WORDS),
     ("BAD_ATTRIBUTE", Refusal::BAD_ATTRIBUTE),
+    ("BAD_CATALOGUE", Refusal::BAD_CATALOGUE),
 ];
 
 /// A file, by its path from this crate's folder.
@@ -69,6 +70,7 @@ fn the_numbers_are_the_headers() {
     same("MAX_TOKENS", layout::MAX_TOKENS);
     same("QUERY_STEPS", layout::QUERY_STEPS);
     same("VIEW_STEPS", layout::VIEW_STEPS);
+    same("MAX_VIEWS", layout::MAX_VIEWS);
     same("MAX_OBJECTS", layout::MAX_OBJECTS.into());
     same("MAX_FACTS", layout::MAX_FACTS);
     same("SCHEMA_SIZES", SCHEMA.sizes);
@@ -167,5 +169,5 @@ fn the_functions_are_the_headers() {
     }
     let raw = declared(&read("src/raw.rs"), "\n    fn bikuvoa_", ") -> u16;");
     assert_eq!(raw, header);
-    assert_eq!(raw.len(), 9, "{:?}", raw.keys());
+    assert_eq!(raw.len(), 10, "{:?}", raw.keys());
 }

@@ -1,8 +1,9 @@
 //! Whatever the builders build is accepted, and no words make a call fail in
 //! another way than by a refusal.
 
-use bikuvoa::layout::{MAX_ATTRIBUTES, MAX_CLASSES, MAX_CONSTANTS, QUERY_STEPS, VIEW_STEPS};
-use bikuvoa::{check_concept, check_view, decide, holds, legal, select};
+use bikuvoa::layout::{self, MAX_ATTRIBUTES, MAX_CLASSES, MAX_CONSTANTS, MAX_VIEWS};
+use bikuvoa::layout::{QUERY_STEPS, VIEW_STEPS};
+use bikuvoa::{catalogue, check_concept, check_view, decide, holds, legal, select};
 use bikuvoa::{links_by_first, links_by_second};
 use bikuvoa::{Attribute, Axiom, Class, Concept, Constant, Fact, Object, Path, Signature, Token};
 use bikuvoa::{Decision, Legality, Named, Query, Refusal, Schema, State, View};
@@ -314,6 +315,58 @@ fn built_triples_are_decided() {
     assert!(held > DRAWS / 20 && open > DRAWS / 20, "{held}, {open}");
 }
 
+/// The groups by their definition: each time, of those with no narrower group to
+/// come, the one with the lowest view. The first of the views that are left and
+/// have no narrower one is in it.
+fn groups(views: usize, is_held: impl Fn(usize, usize) -> bool) -> Vec<Vec<usize>> {
+    let is_narrower = |one, other| is_held(one, other) && !is_held(other, one);
+    let mut left: Vec<usize> = (0..views).collect();
+    let mut groups = Vec::new();
+    while !left.is_empty() {
+        let waits = |view: usize| left.iter().any(|&other| is_narrower(other, view));
+        let next = left.iter().copied().find(|&view| !waits(view));
+        let next = next.expect("a view that no other is narrower than");
+        let is_same = |&view: &usize| is_held(view, next) && is_held(next, view);
+        let (group, others) = left.into_iter().partition(is_same);
+        groups.push(group);
+        left = others;
+    }
+    groups
+}
+
+#[test]
+fn built_catalogues_are_put_in_order() {
+    let mut random = Random(8);
+    let (mut drawn, mut together, mut moved) = (0, 0, 0);
+    while drawn < DRAWS / 10 {
+        let schema = random.schema();
+        let signature = schema.signature();
+        let views = (0..random.below(40)).filter_map(|_| {
+            let depth = random.below(3);
+            View::new(&schema, &random.concept(signature, depth)).ok()
+        });
+        let views: Vec<View> = views.take(MAX_VIEWS).collect();
+        if views.is_empty() {
+            continue;
+        }
+        let catalogued = schema.catalogue(&views).expect("an order");
+        for (i, one) in views.iter().enumerate() {
+            for (j, other) in views.iter().enumerate() {
+                let held = schema.holds(&one.clone().into(), other);
+                assert_eq!(held, Ok(catalogued.is_held(i, j)));
+            }
+        }
+        let expected = groups(views.len(), |one, other| catalogued.is_held(one, other));
+        assert!(catalogued.in_order().eq(expected.iter().cloned()));
+        assert_eq!(catalogued.groups, expected.len() as u64);
+        drawn += 1;
+        together += usize::from(expected.len() < views.len());
+        moved += usize::from(!expected.is_sorted());
+    }
+    let few = DRAWS / 100;
+    assert!(together > few && moved > few, "{together}, {moved}");
+}
+
 /// Few words, mostly small.
 fn any_words(random: &mut Random) -> Vec<u16> {
     let bound = [2, 4, 12, 600, u16::MAX][usize::from(random.below(5))];
@@ -339,6 +392,10 @@ fn any_words_are_answered() {
         // The two checks say what is wrong with the records of a triple.
         let checked = check_concept(&schema, &one).and(check_view(&schema, &other));
         assert_eq!(checked.err(), answer.err());
+        let ordered = catalogue(&schema, &layout::catalogue(&[&one, &other]));
+        let checked = check_view(&schema, &one).and(check_view(&schema, &other));
+        assert_eq!(checked.err(), ordered.err());
+        assert!(catalogue(&schema, &one).err().is_none_or(in_range));
         if let Decision::Refused(refusal) = decide(&schema, &one, &other) {
             refused += 1;
             assert!(in_range(refusal));
