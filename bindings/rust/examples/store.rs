@@ -1,6 +1,6 @@
-//! A store that keeps views, narrow ones first. It reads a query from the first
-//! view that holds it, and filters what it has read unless the query holds the
-//! view as well.
+//! A store that keeps views, narrow ones first, as their catalogue orders them.
+//! It reads a query from the first view that holds it, and filters what it has
+//! read unless the query holds the view as well.
 
 use bikuvoa::{Concept, Legality, Object, Path, Query, Schema, SchemaBuilder, State};
 use bikuvoa::{StateBuilder, View};
@@ -43,14 +43,18 @@ impl Store {
         self.schema.holds(query, view) == Ok(true)
     }
 
-    /// Keeps a view, before the first that is as wide or wider.
-    fn keep(&mut self, name: &'static str, concept: &Concept) -> Result<(), Box<dyn Error>> {
-        let view = View::new(&self.schema, concept)?;
-        let query = Query::from(view.clone());
-        let list = self.schema.select(&query, &self.state)?;
-        let wider = self.views.iter().position(|w| self.holds(&w.view, &query));
-        let place = wider.unwrap_or(self.views.len());
-        self.views.insert(place, Stored { name, view, list });
+    /// Keeps views of the concepts, in the order of their catalogue. The views of a
+    /// group have the same objects, so one of them is enough.
+    fn keep(&mut self, concepts: &[(&'static str, Concept)]) -> Result<(), Box<dyn Error>> {
+        let views = concepts.iter().map(|(_, c)| View::new(&self.schema, c));
+        let views: Vec<View> = views.collect::<Result<_, _>>()?;
+        self.views.clear();
+        for group in self.schema.catalogue(&views)?.in_order() {
+            let (name, _) = concepts[group[0]];
+            let view = views[group[0]].clone();
+            let list = self.schema.select(&view.clone().into(), &self.state)?;
+            self.views.push(Stored { name, view, list });
+        }
         Ok(())
     }
 
@@ -118,9 +122,16 @@ pub fn report() -> Result<Vec<String>, Box<dyn Error>> {
 
     let wearing = Concept::reached(Path::empty().forward(wears, Concept::class(strap)));
     let mut store = Store::new(schema, facts.build()?)?;
-    store.keep("persons", &Concept::class(person))?;
-    store.keep("rowers", &Concept::class(rower))?;
-    store.keep("wearers", &wearing)?;
+    store.keep(&[
+        ("persons", Concept::class(person)),
+        ("rowers", Concept::class(rower)),
+        ("wearers", wearing.clone()),
+        // The wearers once more, since only persons wear straps.
+        (
+            "persons with a strap",
+            Concept::both(Concept::class(person), wearing.clone()),
+        ),
+    ])?;
 
     let names: Vec<&str> = store.views.iter().map(|stored| stored.name).collect();
     let mut lines = vec![format!("views: {}", names.join(", "))];
