@@ -1,8 +1,9 @@
 //! What can be asked, over raw records. Calls are checked in the order schema,
-//! query or concept, view, state, then attribute or lent words; `Err` holds the
-//! number of the refusal, and a refused call changes nothing.
+//! query or concept, view or catalogue, state, then attribute or lent words; `Err`
+//! holds the number of the refusal, and a refused call changes nothing.
 
 use crate::calculus::{self, Verdict};
+use crate::catalogue::{held, order};
 use crate::names::{self, Named};
 use crate::records::{self, QUERY_STEPS, VIEW_STEPS};
 use crate::semantics;
@@ -10,6 +11,9 @@ use crate::syntax::{Concept, Schema, State};
 
 /// The least number of lent words for a decision.
 pub const DECIDE_WORDS: usize = 30_762;
+
+/// The least number of lent words for the rows of a catalogue, and for its order.
+pub const CATALOGUE_WORDS: usize = 16;
 
 /// Whether a state is legal, otherwise the place of its first broken axiom.
 #[derive(Clone, Copy, Debug, PartialEq, Eq)]
@@ -129,6 +133,36 @@ pub fn decide(
 pub fn holds(schema: &[u16], query: &[u16], view: &[u16]) -> Result<Verdict, u16> {
     let (schema, query, view) = triple(schema, query, view)?;
     Ok(calculus::decide(&schema, &query, &view))
+}
+
+/// Puts the views of a catalogue in order and counts their groups. A row has the
+/// views that its view is held by, a word of the order has a group's.
+pub fn catalogue(
+    schema: &[u16],
+    views: &[u16],
+    rows: &mut [u16],
+    order_words: &mut [u16],
+) -> Result<u64, u16> {
+    let schema = records::schema(schema)?;
+    let views = records::catalogue(views)?;
+    let views = views
+        .into_iter()
+        .map(|view| records::concept(view, &schema, VIEW_STEPS))
+        .collect::<Result<Vec<Concept>, u16>>()?;
+    if rows.len().min(order_words.len()) < CATALOGUE_WORDS {
+        return Err(11);
+    }
+    let held = held(&schema, &views);
+    let order = order(views.len(), &held);
+    rows[..CATALOGUE_WORDS].fill(0);
+    for &(first, second) in &held {
+        rows[first] += 1 << second;
+    }
+    order_words[..CATALOGUE_WORDS].fill(0);
+    for (word, group) in order_words.iter_mut().zip(&order) {
+        *word = group.iter().map(|view| 1 << view).sum();
+    }
+    Ok(order.len() as u64)
 }
 
 fn triple(schema: &[u16], query: &[u16], view: &[u16]) -> Result<(Schema, Concept, Concept), u16> {

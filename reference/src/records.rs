@@ -1,9 +1,11 @@
 //! Decoding of records, with the number of the first refusal that applies.
 
+mod catalogue;
 mod concept;
 mod schema;
 mod state;
 
+pub use catalogue::catalogue;
 pub use concept::{concept, QUERY_STEPS, VIEW_STEPS};
 pub use schema::schema;
 pub use state::state;

@@ -1,8 +1,8 @@
 //! Refusal 11, and what a refusal leaves unaltered.
 
-use super::write::axioms_record;
+use super::write::{axioms_record, catalogue_record};
 use crate::calculus::Verdict;
-use crate::entries::{decide, select};
+use crate::entries::{catalogue, decide, select};
 
 const CLASS: [u16; 4] = [1, 0, 1, 0];
 const EVERYTHING: [u16; 4] = [1, 0, 2, 0];
@@ -49,4 +49,39 @@ fn a_refused_selection_marks_nothing() {
     assert_eq!(select(&schema(), &[], &[3, 0], &mut lent), Err(3));
     assert_eq!(select(&schema(), &EVERYTHING, &[3], &mut lent), Err(7));
     assert_eq!(lent, [9; 3]);
+}
+
+/// Of both the first 16 words are written, however few views there are.
+#[test]
+fn a_catalogue_needs_16_words_for_rows_and_for_order() {
+    let views = catalogue_record(&[EVERYTHING, CLASS]);
+    let (mut rows, mut order) = ([9; 18], [9; 17]);
+    let groups = catalogue(&schema(), &views, &mut rows, &mut order);
+    assert_eq!(groups, Ok(2));
+    assert_eq!(rows[..2], [0b01, 0b11]);
+    assert_eq!(order[..2], [0b10, 0b01]);
+    assert_eq!(rows[2..], [[0; 14].as_slice(), &[9; 2]].concat());
+    assert_eq!(order[2..], [[0; 14].as_slice(), &[9]].concat());
+    for (few, enough) in [(15, 16), (2, 18), (0, 16)] {
+        let (mut rows, mut order) = (vec![9; few], vec![9; enough]);
+        let short = catalogue(&schema(), &views, &mut rows, &mut order);
+        assert_eq!(short, Err(11));
+        let short = catalogue(&schema(), &views, &mut order, &mut rows);
+        assert_eq!(short, Err(11));
+        assert_eq!((rows, order), (vec![9; few], vec![9; enough]));
+    }
+}
+
+#[test]
+fn a_refused_catalogue_writes_nothing() {
+    let (mut rows, mut order) = ([9; 16], [9; 16]);
+    let bad_pile = [1, 0, 5, 0];
+    for (views, number) in [
+        (catalogue_record(&[CLASS; 17]), 13),
+        (catalogue_record(&[CLASS, bad_pile]), 5),
+    ] {
+        let refused = catalogue(&schema(), &views, &mut rows, &mut order);
+        assert_eq!(refused, Err(number));
+        assert_eq!((rows, order), ([9; 16], [9; 16]));
+    }
 }

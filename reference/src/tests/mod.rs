@@ -4,6 +4,7 @@
 mod brute_force;
 mod build;
 mod canonical;
+mod catalogue;
 mod concept_refusals;
 mod lent_words;
 mod links;

@@ -1,9 +1,9 @@
 //! The order in which what one call passes is checked.
 
-use super::write::{axioms_record, record};
+use super::write::{axioms_record, catalogue_record, record};
 use crate::calculus::Verdict;
-use crate::entries::{check_concept, check_view, counterexample, decide, holds, legal, select};
-use crate::entries::{links_by_first, links_by_second, Counterexample};
+use crate::entries::{catalogue, check_concept, check_view, counterexample, decide, holds, legal};
+use crate::entries::{links_by_first, links_by_second, select, Counterexample};
 
 const CLASS: [u16; 4] = [1, 0, 1, 0];
 const EVERYTHING: [u16; 4] = [1, 0, 2, 0];
@@ -45,6 +45,8 @@ fn the_schema_comes_first() {
     assert_eq!(decide(&bad_axiom(), &[], &[], 0), Err(2));
     assert_eq!(holds(&[], &[], &[]), Err(1));
     assert_eq!(holds(&bad_axiom(), &[], &[]), Err(2));
+    assert_eq!(catalogue(&[], &[], &mut [], &mut []), Err(1));
+    assert_eq!(catalogue(&bad_axiom(), &[], &mut [], &mut []), Err(2));
 }
 
 /// Each refusal is looked for before the next: a record with several faults.
@@ -90,6 +92,21 @@ fn the_view_comes_before_the_state_and_the_lent_words() {
     assert_eq!(decide(&schema(), &CLASS, &CLASS, 0), Err(11));
     assert_eq!(holds(&schema(), &CLASS, &BAD_STEPS), Err(6));
     assert_eq!(holds(&schema(), &CLASS, &CLASS), Ok(Verdict::Held));
+}
+
+/// The layout, then one view after the other, then the lent words.
+#[test]
+fn the_catalogue_comes_before_its_views_and_they_before_the_lent_words() {
+    let refusal = |views: &[[u16; 4]]| {
+        let views = catalogue_record(views);
+        catalogue(&schema(), &views, &mut [0; 15], &mut [0; 16])
+    };
+    assert_eq!(refusal(&[]), Err(13));
+    assert_eq!(refusal(&[BAD_TOKEN; 17]), Err(13));
+    assert_eq!(refusal(&[BAD_STEPS, BAD_PILE, BAD_TOKEN]), Err(6));
+    assert_eq!(refusal(&[CLASS, BAD_PILE, BAD_TOKEN]), Err(5));
+    assert_eq!(refusal(&[EVERYTHING, CLASS, BAD_TOKEN]), Err(4));
+    assert_eq!(refusal(&[EVERYTHING, CLASS]), Err(11));
 }
 
 #[test]

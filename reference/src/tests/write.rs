@@ -56,6 +56,16 @@ pub fn tokens_record(tokens: &[(u16, u16)]) -> Vec<u16> {
     record(&[word(tokens.len()), word(steps.count())], tokens)
 }
 
+/// A catalogue record from the words of its views.
+pub fn catalogue_record<V: AsRef<[u16]>>(views: &[V]) -> Vec<u16> {
+    let mut words = vec![word(views.len())];
+    words.extend(views.iter().map(|view| word(view.as_ref().len())));
+    for view in views {
+        words.extend(view.as_ref());
+    }
+    words
+}
+
 fn put_concept(concept: &Concept, tokens: &mut Vec<(u16, u16)>) {
     match concept {
         Concept::Class(class) => tokens.push((1, word(*class))),
