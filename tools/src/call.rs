@@ -1,6 +1,6 @@
 //! A call of an entry, as the words that are passed.
 
-use bikuvoa::layout::{Layout, CONCEPT, DECIDE_WORDS, SCHEMA, STATE};
+use bikuvoa::layout::{Layout, CONCEPT, DECIDE_WORDS, MAX_VIEWS, SCHEMA, STATE};
 
 #[derive(Clone, Copy, Debug, PartialEq, Eq)]
 pub enum Entry {
@@ -13,6 +13,7 @@ pub enum Entry {
     LinksBySecond,
     Decide,
     Holds,
+    Catalogue,
 }
 
 /// What a caller passes, in the order in which it is checked.
@@ -21,13 +22,16 @@ pub enum Place {
     Schema,
     Query,
     View,
+    Catalogue,
     State,
     Attribute,
     Lent,
+    Rows,
+    Order,
 }
 
 impl Entry {
-    pub const ALL: [Entry; 9] = [
+    pub const ALL: [Entry; 10] = [
         Entry::CheckConcept,
         Entry::CheckView,
         Entry::Select,
@@ -37,6 +41,7 @@ impl Entry {
         Entry::LinksBySecond,
         Entry::Decide,
         Entry::Holds,
+        Entry::Catalogue,
     ];
 
     /// Those that check a concept by itself and tell what it names.
@@ -46,7 +51,7 @@ impl Entry {
     pub const LINKS: [Entry; 2] = [Entry::LinksByFirst, Entry::LinksBySecond];
 
     pub fn places(self) -> &'static [Place] {
-        use Place::{Attribute, Lent, Query, Schema, State, View};
+        use Place::{Attribute, Catalogue, Lent, Order, Query, Rows, Schema, State, View};
         match self {
             Entry::CheckConcept => &[Schema, Query],
             Entry::CheckView => &[Schema, View],
@@ -56,6 +61,7 @@ impl Entry {
             Entry::LinksByFirst | Entry::LinksBySecond => &[Schema, Query, State, Attribute],
             Entry::Decide => &[Schema, Query, View, Lent],
             Entry::Holds => &[Schema, Query, View],
+            Entry::Catalogue => &[Schema, Catalogue, Rows, Order],
         }
     }
 
@@ -64,9 +70,18 @@ impl Entry {
         match self {
             Entry::Select => objects,
             Entry::Decide => DECIDE_WORDS,
+            Entry::Catalogue => MAX_VIEWS,
             Entry::CheckConcept | Entry::CheckView => 0,
             Entry::Legal | Entry::Counterexample | Entry::Holds => 0,
             Entry::LinksByFirst | Entry::LinksBySecond => 0,
+        }
+    }
+
+    /// How many words must be lent for an order.
+    pub fn least_order(self) -> usize {
+        match self {
+            Entry::Catalogue => MAX_VIEWS,
+            _ => 0,
         }
     }
 
@@ -81,19 +96,21 @@ impl Entry {
             Entry::LinksBySecond => "links_by_second",
             Entry::Decide => "decide",
             Entry::Holds => "holds",
+            Entry::Catalogue => "catalogue",
         }
     }
 }
 
 impl Place {
-    /// How the place's record is laid out; an attribute and lent words have no
-    /// layout.
+    /// How the place's record is laid out; a catalogue is laid out in its own way,
+    /// and an attribute and lent words have no layout.
     pub fn layout(self) -> Option<&'static Layout> {
         match self {
             Place::Schema => Some(&SCHEMA),
             Place::Query | Place::View => Some(&CONCEPT),
             Place::State => Some(&STATE),
-            Place::Attribute | Place::Lent => None,
+            Place::Catalogue | Place::Attribute => None,
+            Place::Lent | Place::Rows | Place::Order => None,
         }
     }
 
@@ -102,9 +119,12 @@ impl Place {
             Place::Schema => "schema",
             Place::Query => "query",
             Place::View => "view",
+            Place::Catalogue => "catalogue",
             Place::State => "state",
             Place::Attribute => "attribute",
             Place::Lent => "lent",
+            Place::Rows => "rows",
+            Place::Order => "order",
         }
     }
 }
@@ -118,11 +138,14 @@ pub struct Call {
     pub schema: Vec<u16>,
     pub query: Vec<u16>,
     pub view: Vec<u16>,
+    pub catalogue: Vec<u16>,
     pub state: Vec<u16>,
     /// The number of an attribute, which need not be declared.
     pub attribute: u16,
-    /// How many words are lent.
+    /// How many words are lent; for a catalogue, those of its rows.
     pub lent: usize,
+    /// How many words are lent for the order of a catalogue.
+    pub order: usize,
 }
 
 impl Call {
@@ -139,8 +162,9 @@ impl Call {
             Place::Schema => Some(&self.schema),
             Place::Query => Some(&self.query),
             Place::View => Some(&self.view),
+            Place::Catalogue => Some(&self.catalogue),
             Place::State => Some(&self.state),
-            Place::Attribute | Place::Lent => None,
+            Place::Attribute | Place::Lent | Place::Rows | Place::Order => None,
         }
     }
 
@@ -149,20 +173,23 @@ impl Call {
             Place::Schema => Some(&mut self.schema),
             Place::Query => Some(&mut self.query),
             Place::View => Some(&mut self.view),
+            Place::Catalogue => Some(&mut self.catalogue),
             Place::State => Some(&mut self.state),
-            Place::Attribute | Place::Lent => None,
+            Place::Attribute | Place::Lent | Place::Rows | Place::Order => None,
         }
     }
 }
 
 /// Code that answers calls as include/bikuvoa.h says.
 pub trait Answerer {
-    /// Returns 0 or the refusal's number. Only decide has a second out value, and
-    /// only the checks have sets, of classes and of attributes.
+    /// Returns 0 or the refusal's number. Only a catalogue has words lent for an
+    /// order, only decide has a second out value, and only the checks have sets, of
+    /// classes and of attributes.
     fn answer(
         &self,
         call: &Call,
         lent: &mut [u16],
+        order: &mut [u16],
         outs: &mut [u64; 2],
         sets: &mut [u32; 2],
     ) -> u16;

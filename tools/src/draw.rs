@@ -3,6 +3,7 @@
 use crate::prng::Prng;
 
 pub mod attribute;
+pub mod catalogue;
 pub mod damage;
 pub mod state;
 pub mod triple;

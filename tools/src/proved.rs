@@ -11,6 +11,7 @@ impl Answerer for Proved {
         &self,
         call: &Call,
         lent: &mut [u16],
+        order: &mut [u16],
         outs: &mut [u64; 2],
         sets: &mut [u32; 2],
     ) -> u16 {
@@ -18,6 +19,7 @@ impl Answerer for Proved {
             schema,
             query,
             view,
+            catalogue,
             state,
             attribute,
             ..
@@ -34,6 +36,7 @@ impl Answerer for Proved {
             Entry::LinksBySecond => raw::links_by_second(schema, query, state, *attribute, out),
             Entry::Decide => raw::decide(schema, query, view, lent, out, second),
             Entry::Holds => raw::holds(schema, query, view, out),
+            Entry::Catalogue => raw::catalogue(schema, catalogue, lent, order, out),
         }
     }
 }

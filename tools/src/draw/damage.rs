@@ -4,43 +4,116 @@
 use super::attribute;
 use crate::call::{Call, Place};
 use crate::prng::Prng;
+use crate::word;
 use bikuvoa::layout::token::{self, EMPTY, EVERYTHING, REACHED};
-use bikuvoa::layout::{self, Layout, Signature, MAX_OBJECTS, QUERY_STEPS, VIEW_STEPS};
-use bikuvoa::layout::{MAX_ATTRIBUTES, MAX_CLASSES, MAX_CONSTANTS};
+use bikuvoa::layout::{self, Layout, Signature, CONCEPT, QUERY_STEPS, VIEW_STEPS};
+use bikuvoa::layout::{MAX_ATTRIBUTES, MAX_CLASSES, MAX_CONSTANTS, MAX_OBJECTS, MAX_VIEWS};
 
 /// Damages what stands at the place.
 pub fn damage(prng: &mut Prng, call: &mut Call, place: Place) {
     match (call.record_mut(place), place.layout()) {
-        (Some(words), Some(layout)) => match prng.below(12) {
-            0..=2 => flip_word(prng, layout, words),
-            3 => cut(prng, words),
-            4 => lengthen(prng, words),
-            5 => *words = random_words(prng),
-            6..=8 => alter_entries(prng, layout, words),
-            9 => fill(prng, layout, words),
-            _ => reach_limit(prng, place, words),
-        },
-        _ => damage_number(prng, call, place),
+        (Some(words), Some(layout)) => damage_record(prng, place, layout, words),
+        (Some(words), None) => damage_catalogue(prng, words),
+        (None, _) => damage_number(prng, call, place),
+    }
+}
+
+fn damage_record(prng: &mut Prng, place: Place, layout: &Layout, words: &mut Vec<u16>) {
+    match prng.below(12) {
+        0..=2 => flip_word(prng, layout.sizes, words),
+        3 => cut(prng, words),
+        4 => lengthen(prng, words),
+        5 => *words = random_words(prng),
+        6..=8 => alter_entries(prng, layout, words),
+        9 => fill(prng, layout, words),
+        _ => reach_limit(prng, place, words),
     }
 }
 
 /// Damages what is no record: an attribute becomes one that is not declared, as
 /// far as the schema still says what is.
 fn damage_number(prng: &mut Prng, call: &mut Call, place: Place) {
-    if place == Place::Attribute {
-        let signature = Signature::of(&call.schema).unwrap_or_default();
-        call.attribute = attribute::undeclared(prng, signature);
-    } else {
-        call.lent = fewer(prng, call.lent);
+    match place {
+        Place::Attribute => {
+            let signature = Signature::of(&call.schema).unwrap_or_default();
+            call.attribute = attribute::undeclared(prng, signature);
+        }
+        Place::Order => call.order = fewer(prng, call.order),
+        _ => call.lent = fewer(prng, call.lent),
     }
 }
 
-/// Alters one word, by preference a size word.
-fn flip_word(prng: &mut Prng, layout: &Layout, words: &mut [u16]) {
+/// Half of the damage is to the views, whose lengths are then those of their
+/// records. The rest is to their count, to the lengths and to the layout.
+fn damage_catalogue(prng: &mut Prng, words: &mut Vec<u16>) {
+    let views = layout::views(words).unwrap_or_default();
+    let mut views: Vec<Vec<u16>> = views.into_iter().map(Vec::from).collect();
+    if views.is_empty() {
+        return lengthen(prng, words);
+    }
+    match prng.below(16) {
+        0 => flip_word(prng, 1, words),
+        1 => flip_word(prng, 1, &mut words[1..=views.len()]),
+        2 => cut(prng, words),
+        3 => lengthen(prng, words),
+        4 => *words = random_words(prng),
+        5 => move_boundary(prng, words, views.len()),
+        6 => lengthen_by_words(prng, words, views.len()),
+        7 => *words = layout::catalogue(&[[0; 0]; 0]),
+        8..=9 => {
+            damage_views(prng, &mut views);
+            let last = views[views.len() - 1].clone();
+            views.resize(MAX_VIEWS + prng.below(2), last);
+            *words = layout::catalogue(&views);
+        }
+        _ => {
+            damage_views(prng, &mut views);
+            *words = layout::catalogue(&views);
+        }
+    }
+}
+
+/// Damages one view, and often later ones as well, of which nothing must be told.
+fn damage_views(prng: &mut Prng, views: &mut [Vec<u16>]) {
+    let first = prng.below(views.len());
+    for (place, view) in views.iter_mut().enumerate().skip(first) {
+        if place == first || prng.chance(50) {
+            damage_record(prng, Place::View, &CONCEPT, view);
+        }
+    }
+}
+
+/// Gives words of one view to another, so that there are as many in all.
+fn move_boundary(prng: &mut Prng, words: &mut [u16], views: usize) {
+    let (from, to) = (1 + prng.below(views), 1 + prng.below(views));
+    let moved = prng.one_of([1, 2, words[from]]).min(words[from]);
+    words[from] -= moved;
+    words[to] += moved;
+}
+
+/// As many words more as a word can tell numbers apart: lengths, or words, or both,
+/// so that a sum of 16 bits is as it was. With both, the layout is right.
+fn lengthen_by_words(prng: &mut Prng, words: &mut Vec<u16>, views: usize) {
+    const MORE: usize = 1 << 16;
+    let lengths = views > 1 && prng.chance(80);
+    if lengths {
+        let (one, other) = (1, 2 + prng.below(views - 1));
+        let least = 1 + usize::from(words[other]);
+        let more = prng.between(least, usize::from(u16::MAX - words[one]));
+        words[one] += word(more);
+        words[other] += word(MORE - more);
+    }
+    if !lengths || prng.chance(30) {
+        words.resize(words.len() + MORE, 0);
+    }
+}
+
+/// Alters one word, by preference one of the size words.
+fn flip_word(prng: &mut Prng, sizes: usize, words: &mut [u16]) {
     if words.is_empty() {
         return;
     }
-    let sizes = layout.sizes.min(words.len());
+    let sizes = sizes.min(words.len());
     let place = if prng.chance(30) {
         prng.below(sizes)
     } else {
@@ -82,7 +155,7 @@ fn random_words(prng: &mut Prng) -> Vec<u16> {
 fn alter_entries(prng: &mut Prng, layout: &Layout, words: &mut Vec<u16>) {
     let entries = layout.entries(words).map(Vec::from_iter);
     let Some(mut entries) = entries.filter(|entries| !entries.is_empty()) else {
-        return flip_word(prng, layout, words);
+        return flip_word(prng, layout.sizes, words);
     };
     let (one, other) = (prng.below(entries.len()), prng.below(entries.len()));
     match prng.below(4) {

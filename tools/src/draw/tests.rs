@@ -1,12 +1,13 @@
 //! What is drawn is what it is said to be.
 
+use super::catalogue::Catalogue;
 use super::repair::{model, Values};
 use super::triple::Triple;
 use super::{attribute, state, wide};
 use crate::call::Entry;
 use crate::prng::Prng;
 use bikuvoa::layout;
-use reference::entries::{holds, legal, select};
+use reference::entries::{catalogue, holds, legal, select, CATALOGUE_WORDS};
 use reference::records;
 use reference::semantics::{first_broken, selected};
 
@@ -31,6 +32,27 @@ fn triples_are_accepted() {
     for _ in 0..20 {
         assert_accepted(&wide::triple(&mut prng));
     }
+}
+
+#[test]
+fn catalogues_are_accepted() {
+    let mut prng = Prng::new(37);
+    let mut counts = [0; layout::MAX_VIEWS + 1];
+    for _ in 0..DRAWS / 10 {
+        let drawn = Catalogue::random(&mut prng);
+        let call = drawn.call(CATALOGUE_WORDS, CATALOGUE_WORDS);
+        let mut lent = [[0; CATALOGUE_WORDS]; 2];
+        let [rows, order] = &mut lent;
+        let groups = catalogue(&call.schema, &call.catalogue, rows, order);
+        assert!(groups.is_ok(), "{groups:?} of {drawn:?}");
+        counts[drawn.views.len()] += 1;
+        let triple = Triple::random(&mut prng);
+        let related = Catalogue::related(&mut prng, &triple, 3);
+        assert_eq!(related.views.len(), 3);
+        assert!(related.views.contains(&triple.view));
+        assert_eq!(related.schema_words(), triple.schema_words());
+    }
+    assert!(counts[1..].iter().all(|&count| count > 0), "{counts:?}");
 }
 
 #[test]

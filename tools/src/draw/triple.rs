@@ -109,23 +109,26 @@ impl Triple {
         self.call(entry, Vec::new(), entry.least_lent(0))
     }
 
-    /// A call with the triple's records and a state's, and with attribute 0.
+    /// A call with the triple's records and a state's, with attribute 0 and without a
+    /// catalogue.
     pub fn call(&self, entry: Entry, state: Vec<u16>, lent: usize) -> Call {
         Call {
             entry,
             schema: self.schema_words(),
             query: layout::concept(&self.query),
             view: layout::concept(&self.view),
+            catalogue: Vec::new(),
             state,
             attribute: 0,
             lent,
+            order: entry.least_order(),
         }
     }
 }
 
 /// Alters a leaf or a step. The other tokens hold the concept together and
 /// stay, and so may the only leaf of a small signature.
-fn alter_token(prng: &mut Prng, signature: Signature, tokens: &mut [Pair]) {
+pub(super) fn alter_token(prng: &mut Prng, signature: Signature, tokens: &mut [Pair]) {
     let open: Vec<usize> = (0..tokens.len())
         .filter(|&place| token::is_leaf(tokens[place]) || token::is_step(tokens[place]))
         .collect();

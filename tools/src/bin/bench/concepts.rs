@@ -144,8 +144,13 @@ pub fn star() -> Vec<u16> {
 /// A path along six attributes that the largest schema needs, to a class that
 /// nothing is forced into.
 pub fn six_needs() -> Vec<u16> {
+    needs(0..)
+}
+
+/// The same along the first six of these attributes.
+pub fn needs(attributes: impl Iterator<Item = u16>) -> Vec<u16> {
     let mut tokens = Vec::new();
-    put_path(&mut tokens, 0, (0..6).map(forward));
+    put_path(&mut tokens, 0, attributes.take(VIEW_STEPS).map(forward));
     let last = tokens.len() - 2;
     tokens[last] = class(FREE);
     tokens.push(REACHED);

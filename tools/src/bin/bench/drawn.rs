@@ -1,7 +1,9 @@
 //! Random calls, which are nobody's best case: a fixed seed, and all sizes that
 //! the drawing code has.
 
+use bikuvoa::layout::MAX_VIEWS;
 use tools::call::{Call, Entry};
+use tools::draw::catalogue::Catalogue;
 use tools::draw::triple::Triple;
 use tools::draw::{attribute, state, wide};
 use tools::prng::Prng;
@@ -11,18 +13,32 @@ pub const CALLS: usize = 200;
 const SEED: u64 = 1;
 
 /// The calls of an entry. All entries have the same triples, states and
-/// attributes.
+/// attributes, and catalogues are under the triples' schemas.
 pub fn calls(entry: Entry) -> Vec<Call> {
     let mut prng = Prng::new(SEED);
     let mut attributes = prng.aside();
-    let calls = (0..CALLS).map(|place| call(&mut prng, &mut attributes, entry, place));
+    let mut catalogues = attributes.aside();
+    let calls = (0..CALLS).map(|place| {
+        let triple = triple(&mut prng, place);
+        let mut call = call(&mut prng, &mut attributes, entry, &triple, place);
+        if entry == Entry::Catalogue {
+            let views = catalogues.between(1, MAX_VIEWS);
+            call.catalogue = Catalogue::related(&mut catalogues, &triple, views).words();
+        }
+        call
+    });
     calls.collect()
 }
 
 /// A few of the states go up to the limits. With this seed each triple declares
 /// an attribute, without which a count of links would be refused.
-fn call(prng: &mut Prng, attributes: &mut Prng, entry: Entry, place: usize) -> Call {
-    let triple = triple(prng, place);
+fn call(
+    prng: &mut Prng,
+    attributes: &mut Prng,
+    entry: Entry,
+    triple: &Triple,
+    place: usize,
+) -> Call {
     let (schema, query) = triple.decoded();
     let state = match place % 10 {
         0 => state::large,

@@ -1,6 +1,6 @@
 //! The inputs that are measured.
 
-use crate::{concepts, drawn, schemas, states};
+use crate::{catalogues, concepts, drawn, schemas, states};
 use bikuvoa::layout::{MAX_OBJECTS, QUERY_STEPS, VIEW_STEPS};
 use tools::call::{Call, Entry};
 
@@ -84,9 +84,11 @@ fn small(entry: Entry) -> Call {
         schema,
         query,
         view: concepts::there_and_back(),
+        catalogue: catalogues::small(),
         state: states::straps(),
         attribute: schemas::WEARS,
         lent: entry.least_lent(3),
+        order: entry.least_order(),
     }
 }
 
@@ -102,9 +104,11 @@ fn middle(entry: Entry) -> Call {
         schema: schemas::medical(),
         query,
         view: concepts::known_patients(),
+        catalogue: catalogues::middle(),
         state: states::all_alike(60, schemas::MEDICAL),
         attribute: schemas::CONSULTS,
         lent: entry.least_lent(60),
+        order: entry.least_order(),
     }
 }
 
@@ -129,9 +133,11 @@ fn largest(entry: Entry) -> Call {
         schema,
         query,
         view,
+        catalogue: catalogues::largest(),
         state,
         attribute: 0,
         lent: entry.least_lent(MAX_OBJECTS.into()),
+        order: entry.least_order(),
     }
 }
 

@@ -2,6 +2,7 @@
 //! tables in the form of docs/BENCHMARKS.md. With an entry and an input, as the
 //! tables name them, it only calls the proved code, for tools/profile to watch.
 
+mod catalogues;
 mod concepts;
 mod drawn;
 mod inputs;
@@ -97,7 +98,7 @@ fn measure_beside(input: &Input) -> Result<Beside, String> {
         ..call.clone()
     };
     let mut outs = [0; 2];
-    Proved.answer(call, &mut [], &mut outs, &mut [0; 2]);
+    Proved.answer(call, &mut [], &mut [], &mut outs, &mut [0; 2]);
     let (counted, selected) = (timing::proved(call)?, timing::proved(&select)?);
     let (counted, selected) = timing::in_turn(OF_ONE_INPUT, counted, selected);
     Ok(Beside {

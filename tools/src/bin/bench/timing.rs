@@ -60,21 +60,29 @@ fn calls_in_a_round(least: Duration, call: &mut impl FnMut()) -> u32 {
 /// to be worth measuring.
 pub fn proved(call: &Call) -> Result<impl FnMut() + '_, String> {
     let mut lent = vec![0; call.lent];
+    let mut order = vec![0; call.order];
     let (mut outs, mut sets) = ([0; 2], [0; 2]);
-    match Proved.answer(call, &mut lent, &mut outs, &mut sets) {
-        0 => Ok(move || keep(Proved.answer(black_box(call), &mut lent, &mut outs, &mut sets))),
+    let mut answer = move |call| Proved.answer(call, &mut lent, &mut order, &mut outs, &mut sets);
+    check_accepted(call, answer(call))?;
+    Ok(move || keep(answer(black_box(call))))
+}
+
+fn check_accepted(call: &Call, number: u16) -> Result<(), String> {
+    match number {
+        0 => Ok(()),
         number => Err(format!("{} is refused as {number}", call.entry.name())),
     }
 }
 
 /// The call, ready to be put to the reference.
 pub fn reference(call: &Call) -> impl FnMut() + '_ {
-    let mut lent = vec![0; call.lent];
+    let (mut lent, mut order) = (vec![0; call.lent], vec![0; call.order]);
     move || {
         let Call {
             schema,
             query,
             view,
+            catalogue,
             state,
             attribute,
             ..
@@ -93,6 +101,9 @@ pub fn reference(call: &Call) -> impl FnMut() + '_ {
             }
             Entry::Decide => keep(entries::decide(schema, query, view, lent.len())),
             Entry::Holds => keep(entries::holds(schema, query, view)),
+            Entry::Catalogue => {
+                keep(entries::catalogue(schema, catalogue, &mut lent, &mut order));
+            }
         }
     }
 }

@@ -3,7 +3,8 @@
 use crate::verify::{verify, Difference};
 use bikuvoa::Refusal;
 use std::fmt;
-use tools::call::{Answerer, Call, Entry};
+use tools::call::{Answerer, Call, Entry, Place};
+use tools::draw::catalogue::Catalogue;
 use tools::draw::damage::damage;
 use tools::draw::triple::Triple;
 use tools::draw::{attribute, state};
@@ -11,6 +12,10 @@ use tools::prng::Prng;
 
 /// The highest number of a refusal.
 const REFUSALS: usize = Refusal::LAST.number() as usize;
+
+/// The most views of a catalogue before it is damaged: more would not be damaged in
+/// other ways.
+const VIEWS: usize = 4;
 
 /// How many calls got each number; 0 is damage that did no harm.
 #[derive(Default)]
@@ -35,22 +40,34 @@ impl fmt::Display for Tally {
     }
 }
 
-/// Verifies at least `count` calls, as many for each place of each entry.
+/// Verifies at least `count` calls, as many for each place of each entry but for
+/// the catalogue.
 pub fn run(tested: &dyn Answerer, prng: &mut Prng, count: usize) -> Result<Tally, Box<Difference>> {
     let mut tally = Tally::default();
     while tally.calls() < count {
         let triple = Triple::random(prng);
         for entry in Entry::ALL {
             let call = sound(prng, entry, &triple);
-            for first in 0..entry.places().len() {
-                let mut call = call.clone();
-                break_from(prng, &mut call, first);
-                let outcome = verify(tested, &call)?;
-                tally.numbers[usize::from(outcome.number)] += 1;
+            for (first, &place) in entry.places().iter().enumerate() {
+                for _ in 0..times(place) {
+                    let mut call = call.clone();
+                    break_from(prng, &mut call, first);
+                    let outcome = verify(tested, &call)?;
+                    tally.numbers[usize::from(outcome.number)] += 1;
+                }
             }
         }
     }
     Ok(tally)
+}
+
+/// A catalogue has its own layout and the records of views in it, and can be damaged
+/// in more ways than another record.
+fn times(place: Place) -> usize {
+    match place {
+        Place::Catalogue => 4,
+        _ => 1,
+    }
 }
 
 /// A call that is not refused, unless it takes an attribute and none is
@@ -60,6 +77,10 @@ fn sound(prng: &mut Prng, entry: Entry, triple: &Triple) -> Call {
     let state = state::state(prng, triple.signature, &schema, &query);
     let mut call = triple.call(entry, state.words(), entry.least_lent(state.objects));
     call.attribute = attribute::declared(prng, triple.signature).unwrap_or(0);
+    if entry == Entry::Catalogue {
+        let count = prng.between(1, VIEWS);
+        call.catalogue = Catalogue::related(prng, triple, count).words();
+    }
     call
 }
 

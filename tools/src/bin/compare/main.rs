@@ -2,6 +2,7 @@
 //! argument is a seed; without it the seed is 1. The first difference found is
 //! made small, printed with its words, and ends the program with 1.
 
+mod catalogues;
 mod damaged;
 mod names;
 mod outcome;
@@ -25,8 +26,9 @@ use verify::{verify, Difference};
 const SEED: u64 = 1;
 const TRIPLES: usize = 60_000;
 const STATES: usize = 40_000;
-const DAMAGED: usize = 116_000;
+const DAMAGED: usize = 144_000;
 const CONCEPTS: usize = 100_000;
+const CATALOGUES: usize = 4_000;
 
 fn main() -> ExitCode {
     let seed = match std::env::args().nth(1).map(|argument| argument.parse()) {
@@ -54,7 +56,7 @@ fn smallest(difference: Box<Difference>) -> Box<Difference> {
     verify(&Proved, &call).err().unwrap_or(difference)
 }
 
-/// The four comparisons.
+/// The five comparisons.
 fn compare(seed: u64) -> Result<(), Box<Difference>> {
     println!("compare: seed {seed}");
     let mut prng = Prng::new(seed);
@@ -66,10 +68,13 @@ fn compare(seed: u64) -> Result<(), Box<Difference>> {
     println!("{damaged}");
     let names = names::run(&Proved, &mut prng.split(), CONCEPTS)?;
     println!("{names}");
+    let catalogues = catalogues::run(&Proved, &mut prng.split(), CATALOGUES)?;
+    println!("{catalogues}");
     println!(
         "compare: seed {seed}, {} triples (held {}, open {}), {} states (legal {}), \
          {} link counts (not 0 {}), {} damaged records, {} checked concepts \
-         (accepted as views {}): no difference",
+         (accepted as views {}), {} catalogues (pairs held {}, groups of more than one view {}): \
+         no difference",
         triples.triples(),
         triples.held(),
         triples.open(),
@@ -79,7 +84,10 @@ fn compare(seed: u64) -> Result<(), Box<Difference>> {
         states.linked,
         damaged.calls(),
         names.concepts,
-        names.views
+        names.views,
+        catalogues.catalogues,
+        catalogues.held,
+        catalogues.shared
     );
     Ok(())
 }

@@ -11,14 +11,15 @@ const GUARD: usize = 4;
 const UNTOUCHED: u64 = 0xBEEF_0000_BEEF;
 const UNTOUCHED_SET: u32 = 0xBEEF_BEEF;
 
-/// The number returned, the out values, the sets of a check, and the lent words
-/// with the guard.
+/// The number returned, the out values, the sets of a check, the lent words and
+/// those lent for an order, each with the guard.
 #[derive(Clone, Debug, PartialEq, Eq)]
 pub struct Outcome {
     pub number: u16,
     pub outs: [u64; 2],
     pub sets: [u32; 2],
     pub words: Vec<u16>,
+    pub order: Vec<u16>,
 }
 
 /// What must come of a call. Of an open verdict the papers leave the state and
@@ -32,22 +33,32 @@ impl Outcome {
     /// A call that alters nothing. The words differ from each other, so that
     /// moved ones are seen as well.
     pub fn untouched(call: &Call) -> Self {
-        let places = 0..call.lent + GUARD;
+        let words = |lent: usize| {
+            let places = 0..lent + GUARD;
+            let words = places.map(|place| (place as u16).wrapping_mul(40_503) ^ 0xBEEF);
+            words.collect()
+        };
         Outcome {
             number: 0,
             outs: [UNTOUCHED; 2],
             sets: [UNTOUCHED_SET; 2],
-            words: places
-                .map(|place| (place as u16).wrapping_mul(40_503) ^ 0xBEEF)
-                .collect(),
+            words: words(call.lent),
+            order: words(call.order),
         }
     }
 
     /// What the answerer leaves behind.
     pub fn of(tested: &dyn Answerer, call: &Call) -> Self {
         let mut outcome = Outcome::untouched(call);
-        let lent = &mut outcome.words[..call.lent];
-        outcome.number = tested.answer(call, lent, &mut outcome.outs, &mut outcome.sets);
+        let Outcome {
+            outs,
+            sets,
+            words,
+            order,
+            ..
+        } = &mut outcome;
+        let (lent, order) = (&mut words[..call.lent], &mut order[..call.order]);
+        outcome.number = tested.answer(call, lent, order, outs, sets);
         outcome
     }
 
@@ -79,6 +90,7 @@ pub fn expected(call: &Call) -> Expected {
         schema,
         query,
         view,
+        catalogue,
         state,
         attribute,
         ..
@@ -111,6 +123,11 @@ pub fn expected(call: &Call) -> Expected {
         Entry::Holds => {
             let verdict = entries::holds(schema, query, view);
             verdict.map(|verdict| u64::from(verdict == Verdict::Held))
+        }
+        Entry::Catalogue => {
+            let rows = &mut outcome.words[..call.lent];
+            let order = &mut outcome.order[..call.order];
+            entries::catalogue(schema, catalogue, rows, order)
         }
     };
     Expected::Exactly(outcome.with(answer))

@@ -1,7 +1,7 @@
 //! Makes a call that is answered wrongly smaller, as long as it still is.
 
 use bikuvoa::layout::token::{self, EVERYTHING};
-use bikuvoa::layout::{self, Layout, Pair};
+use bikuvoa::layout::{self, Layout, Pair, CONCEPT};
 use std::ops::Range;
 use std::time::{Duration, Instant};
 use tools::call::{Call, Place};
@@ -22,6 +22,13 @@ pub fn shrink(call: Call, differs: &dyn Fn(&Call) -> bool) -> Call {
     shrinker.call
 }
 
+/// Where a concept stands: a record by itself, or a view of the catalogue.
+#[derive(Clone, Copy)]
+enum Spot {
+    Record(Place),
+    View(usize),
+}
+
 struct Shrinker<'a> {
     call: Call,
     differs: &'a dyn Fn(&Call) -> bool,
@@ -35,9 +42,11 @@ impl Shrinker<'_> {
         for &place in self.call.entry.places() {
             helped |= match place {
                 Place::Schema | Place::State => self.drop_entries(place),
-                Place::Query | Place::View => self.replace_tokens(place),
+                Place::Query | Place::View => self.replace_tokens(Spot::Record(place)),
+                Place::Catalogue => self.drop_views() | self.replace_views(),
                 Place::Attribute => self.lower_attribute(),
-                Place::Lent => self.lend_fewer(),
+                Place::Lent | Place::Rows => self.lend_fewer(),
+                Place::Order => self.lend_less_order(),
             };
             helped |= self.drop_words(place) | self.lower_words(place);
         }
@@ -102,15 +111,16 @@ impl Shrinker<'_> {
     }
 
     /// Puts nothing, or one leaf, for a run of tokens: long runs first.
-    fn replace_tokens(&mut self, place: Place) -> bool {
+    fn replace_tokens(&mut self, spot: Spot) -> bool {
         let mut helped = false;
-        for run in (1..=self.count(place)).rev() {
+        let count = self.tokens(spot).map_or(0, |tokens| tokens.len());
+        for run in (1..=count).rev() {
             let mut at = 0;
-            while let Some((_, tokens)) = self.entries(place) {
+            while let Some(tokens) = self.tokens(spot) {
                 if at + run > tokens.len() {
                     break;
                 }
-                helped |= self.replace_run(place, &tokens, at..at + run);
+                helped |= self.replace_run(spot, &tokens, at..at + run);
                 at += 1;
             }
         }
@@ -118,7 +128,7 @@ impl Shrinker<'_> {
     }
 
     /// The leaf is "everything" or one that stands in the run.
-    fn replace_run(&mut self, place: Place, tokens: &[Pair], run: Range<usize>) -> bool {
+    fn replace_run(&mut self, spot: Spot, tokens: &[Pair], run: Range<usize>) -> bool {
         let own = tokens[run.clone()].iter().copied();
         let own = own.filter(|&token| token::is_leaf(token));
         let leaves = [EVERYTHING].into_iter().chain(own);
@@ -128,7 +138,58 @@ impl Shrinker<'_> {
             let shorter = instead.len() < run.len();
             let mut tokens = tokens.to_vec();
             tokens.splice(run.clone(), instead);
-            shorter && self.take(place, layout::concept(&tokens))
+            shorter && self.take_concept(spot, layout::concept(&tokens))
+        })
+    }
+
+    /// The tokens of the concept at the spot, if its length fits their count.
+    fn tokens(&self, spot: Spot) -> Option<Vec<Pair>> {
+        let words = match spot {
+            Spot::Record(place) => self.words(place),
+            Spot::View(view) => self.views().get(view)?.clone(),
+        };
+        Some(CONCEPT.entries(&words)?.collect())
+    }
+
+    fn take_concept(&mut self, spot: Spot, words: Vec<u16>) -> bool {
+        match spot {
+            Spot::Record(place) => self.take(place, words),
+            Spot::View(view) => {
+                let mut views = self.views();
+                views[view] = words;
+                self.take(Place::Catalogue, layout::catalogue(&views))
+            }
+        }
+    }
+
+    /// The records of the catalogue's views; none if it is laid out in another way.
+    fn views(&self) -> Vec<Vec<u16>> {
+        let views = layout::views(&self.call.catalogue).unwrap_or_default();
+        views.into_iter().map(Vec::from).collect()
+    }
+
+    /// Drops views: halves first, single ones last.
+    fn drop_views(&mut self) -> bool {
+        let mut helped = false;
+        let mut run = self.views().len();
+        while run > 0 {
+            let mut at = 0;
+            while at < self.views().len() {
+                let mut views = self.views();
+                views.drain(at..views.len().min(at + run));
+                let dropped = self.take(Place::Catalogue, layout::catalogue(&views));
+                helped |= dropped;
+                at += if dropped { 0 } else { run };
+            }
+            run /= 2;
+        }
+        helped
+    }
+
+    fn replace_views(&mut self) -> bool {
+        let views = 0..self.views().len();
+        views.fold(false, |helped, view| {
+            self.replace_tokens(Spot::View(view)) | helped
         })
     }
 
@@ -165,6 +226,10 @@ impl Shrinker<'_> {
 
     fn lend_fewer(&mut self) -> bool {
         self.lower_number(self.call.lent, |call, fewer| call.lent = fewer)
+    }
+
+    fn lend_less_order(&mut self) -> bool {
+        self.lower_number(self.call.order, |call, fewer| call.order = fewer)
     }
 
     /// Puts 0, half or one less for a number of the call.

@@ -1,18 +1,20 @@
 //! Tests of the comparison itself: it finds wrong answers, and finds them in
 //! small calls, on inputs that are worth comparing on.
 
+mod catalogued;
 mod misread;
 mod mixes;
 mod smallest;
 mod spoilt;
 
 use crate::verify::Difference;
-use crate::{damaged, names, states, triples};
+use crate::{catalogues, damaged, names, states, triples};
 use tools::call::Answerer;
 use tools::prng::Prng;
 
 const SEED: u64 = 3;
 const CALLS: usize = 3_000;
+const CATALOGUES: usize = 300;
 
 /// What the comparison of verdicts finds with a wrong answerer.
 fn triple_difference(wrong: &dyn Answerer) -> Box<Difference> {
@@ -28,6 +30,11 @@ fn state_difference(wrong: &dyn Answerer) -> Box<Difference> {
 fn name_difference(wrong: &dyn Answerer) -> Box<Difference> {
     let run = names::run(wrong, &mut Prng::new(SEED), CALLS);
     run.err().expect("a wrong name")
+}
+
+fn catalogue_difference(wrong: &dyn Answerer) -> Box<Difference> {
+    let run = catalogues::run(wrong, &mut Prng::new(SEED), CATALOGUES);
+    run.err().expect("a wrong order")
 }
 
 fn damage_difference(wrong: &dyn Answerer) -> Box<Difference> {

@@ -52,7 +52,8 @@ fn check_outcome(call: &Call, must: &Outcome, seen: &Outcome) -> Result<(), Stri
     if must.sets != seen.sets {
         return Err(format!("sets {:?} and not {:?}", seen.sets, must.sets));
     }
-    check_words(must, seen, 0)
+    check_words("lent", &must.words, &seen.words, 0)?;
+    check_words("order", &must.order, &seen.order, 0)
 }
 
 /// Which of the two verdicts is to blame, as far as the state tells.
@@ -64,12 +65,12 @@ fn open_and_not_held(call: &Call, seen: &Outcome) -> String {
 }
 
 /// Whether the words from a place on are as they must be.
-fn check_words(must: &Outcome, seen: &Outcome, from: usize) -> Result<(), String> {
-    let mut words = must.words.iter().zip(&seen.words).enumerate().skip(from);
+fn check_words(what: &str, must: &[u16], seen: &[u16], from: usize) -> Result<(), String> {
+    let mut words = must.iter().zip(seen).enumerate().skip(from);
     match words.find(|(_, (must, seen))| must != seen) {
         None => Ok(()),
         Some((place, (must, seen))) => {
-            Err(format!("lent word {place} became {seen} and not {must}"))
+            Err(format!("{what} word {place} became {seen} and not {must}"))
         }
     }
 }
@@ -87,7 +88,8 @@ fn check_open(call: &Call, seen: &Outcome) -> Result<(), String> {
     if length > call.lent {
         return Err(format!("a state of {length} words in {}", call.lent));
     }
-    check_words(&Outcome::untouched(call), seen, length)?;
+    let untouched = Outcome::untouched(call).words;
+    check_words("lent", &untouched, &seen.words, length)?;
     check_separates(call, &seen.words[..length], seen.outs)
 }
 

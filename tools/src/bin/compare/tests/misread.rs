@@ -1,7 +1,7 @@
 //! Answerers that are right about another call than the one they are given:
 //! the inputs must be such that this matters.
 
-use super::{name_difference, state_difference, triple_difference};
+use super::{catalogue_difference, name_difference, state_difference, triple_difference};
 use bikuvoa::layout::token::{BACKWARD, CLASS, CONSTANT, EVERYTHING, FORWARD};
 use bikuvoa::layout::{self, axiom, Pair, CONCEPT, SCHEMA};
 use tools::call::{Answerer, Call, Entry};
@@ -14,12 +14,13 @@ impl<F: Fn(&mut Call)> Answerer for Misread<F> {
         &self,
         call: &Call,
         lent: &mut [u16],
+        order: &mut [u16],
         outs: &mut [u64; 2],
         sets: &mut [u32; 2],
     ) -> u16 {
         let mut call = call.clone();
         (self.0)(&mut call);
-        Proved.answer(&call, lent, outs, sets)
+        Proved.answer(&call, lent, order, outs, sets)
     }
 }
 
@@ -172,4 +173,19 @@ fn a_query_taken_for_a_view() {
         }
     }));
     assert_eq!(found.fault, "returned 6 and not 0");
+}
+
+/// No axiom, or views in another order, must be found of a catalogue.
+#[test]
+fn a_catalogue_without_axioms() {
+    catalogue_difference(&Misread(|call| keep_axioms(call, |_, _| false)));
+}
+
+#[test]
+fn views_from_the_last_to_the_first() {
+    catalogue_difference(&Misread(|call| {
+        let mut views = layout::views(&call.catalogue).expect("a catalogue");
+        views.reverse();
+        call.catalogue = layout::catalogue(&views);
+    }));
 }

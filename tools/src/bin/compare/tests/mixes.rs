@@ -1,7 +1,8 @@
 //! Tests that the inputs are worth comparing on: a comparison that never meets
 //! an answer says nothing of it.
 
-use crate::{damaged, names, states, triples};
+use crate::{catalogues, damaged, names, states, triples};
+use bikuvoa::layout::MAX_VIEWS;
 use tools::prng::Prng;
 use tools::proved::Proved;
 
@@ -40,6 +41,19 @@ fn concepts_name_nothing_or_something_or_all() {
     }
     let parts = [tally.views, tally.concepts - tally.views];
     assert!(parts.into_iter().all(is_common), "{tally}");
+}
+
+#[test]
+fn catalogues_have_groups_chains_and_choices() {
+    let tally = catalogues::run(&Proved, &mut Prng::new(SEED), 600).expect("no difference");
+    assert!(is_balanced(tally.held, tally.pairs), "{tally}");
+    assert!(is_balanced(tally.choices, tally.groups), "{tally}");
+    assert!(is_balanced(tally.moved, tally.catalogues), "{tally}");
+    let is_common = |part, all| part * 10 > all;
+    assert!(is_common(tally.shared, tally.groups), "{tally}");
+    assert!(is_common(tally.full, tally.catalogues), "{tally}");
+    assert!(tally.most > MAX_VIEWS / 2, "{tally}");
+    assert!(tally.deepest > MAX_VIEWS / 2, "{tally}");
 }
 
 #[test]

@@ -1,11 +1,12 @@
 //! What is left of a difference once it is made small.
 
 use super::spoilt::{Answer, Spoilt};
-use super::{damage_difference, name_difference, state_difference, triple_difference};
+use super::triple_difference;
+use super::{catalogue_difference, damage_difference, name_difference, state_difference};
 use crate::shrink::shrink;
 use crate::verify::{verify, Difference};
 use bikuvoa::layout::token::EVERYTHING;
-use bikuvoa::layout::{self, Layout, Signature, CONCEPT, SCHEMA, STATE};
+use bikuvoa::layout::{self, Layout, Signature, CONCEPT, MAX_VIEWS, SCHEMA, STATE};
 use tools::call::{Call, Entry};
 
 type Spoil = fn(&mut Answer);
@@ -101,6 +102,26 @@ fn of_a_wrong_name() {
     // Nothing at all is declared, and a view of one token has all objects.
     assert_eq!(call.schema, layout::schema(Signature::default(), &[]));
     assert_eq!(call.view, layout::concept(&[EVERYTHING]));
+}
+
+#[test]
+fn of_a_wrong_order() {
+    let all_held: Spoil = |answer| {
+        if answer.is_of(Entry::Catalogue) {
+            let views = usize::from(answer.call.catalogue[0]);
+            answer.lent[..views].fill(((1u32 << views) - 1) as u16);
+        }
+    };
+    let found = catalogue_difference(&Spoilt(all_held));
+    let call = smallest(all_held, *found);
+    // No axiom, two views of at most one step, and no word to spare.
+    assert_eq!(entries(&SCHEMA, &call.schema), 0);
+    let views = layout::views(&call.catalogue).expect("a catalogue");
+    let tokens = views.iter().map(|view| entries(&CONCEPT, view));
+    let tokens: Vec<usize> = tokens.collect();
+    assert_eq!(tokens.len(), 2);
+    assert!(tokens.iter().sum::<usize>() <= 5, "{tokens:?}");
+    assert_eq!((call.lent, call.order), (MAX_VIEWS, MAX_VIEWS));
 }
 
 #[test]

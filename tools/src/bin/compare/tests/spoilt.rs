@@ -16,6 +16,7 @@ pub struct Answer<'a> {
     /// The lent words as they were before.
     pub before: Vec<u16>,
     pub lent: &'a mut [u16],
+    pub order: &'a mut [u16],
     pub outs: &'a mut [u64; 2],
     pub sets: &'a mut [u32; 2],
     pub number: u16,
@@ -31,17 +32,19 @@ impl<F: Fn(&mut Answer)> Answerer for Spoilt<F> {
         &self,
         call: &Call,
         lent: &mut [u16],
+        order: &mut [u16],
         outs: &mut [u64; 2],
         sets: &mut [u32; 2],
     ) -> u16 {
         let before = lent.to_vec();
-        let number = Proved.answer(call, lent, outs, sets);
+        let number = Proved.answer(call, lent, order, outs, sets);
         let mut answer = Answer {
             call,
             entry: call.entry,
             objects: layout::objects(&call.state).unwrap_or(0).into(),
             before,
             lent,
+            order,
             outs,
             sets,
             number,
@@ -104,7 +107,7 @@ impl Answer<'_> {
         let mut marks = vec![0; MAX_OBJECTS.into()];
         let mut select = self.call.clone();
         select.entry = Entry::Select;
-        Proved.answer(&select, &mut marks, &mut [0; 2], &mut [0; 2]);
+        Proved.answer(&select, &mut marks, &mut [], &mut [0; 2], &mut [0; 2]);
         marks.iter().map(|&mark| mark == 1).collect()
     }
 }
