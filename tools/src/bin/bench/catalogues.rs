@@ -1,6 +1,6 @@
 //! The catalogues of the inputs, each of as many views as there may be.
 
-use crate::concepts::needs;
+use crate::concepts::{known_patients, needs};
 use crate::schemas::{CONSULTS, NAME, SKILLED_IN, SUFFERS, WEARS};
 use crate::schemas::{DISEASE, DOCTOR, MALE, PATIENT, PERSON, STRAP, STRING};
 use bikuvoa::layout::token::{backward, class, constant, forward};
@@ -64,4 +64,14 @@ pub fn largest() -> Vec<u16> {
     let both_ways = [1, MAX_ATTRIBUTES - 1];
     let views = both_ways.map(|on| (0..MAX_ATTRIBUTES).map(move |first| circle(first, on)));
     catalogue(&Vec::from_iter(views.into_iter().flatten()))
+}
+
+/// Classes of the largest schema, each in the next.
+pub fn chain() -> Vec<u16> {
+    of_tokens((0..).map(|number| vec![class(number)]).take(MAX_VIEWS))
+}
+
+/// The report's view over and over.
+pub fn equal() -> Vec<u16> {
+    catalogue(&vec![known_patients(); MAX_VIEWS])
 }

@@ -38,6 +38,27 @@ pub fn beside_select() -> Vec<Input> {
     inputs.collect()
 }
 
+/// Catalogues, to be measured beside calls for their ordered pairs: those of each
+/// size, views of which each is in the next, and equal ones.
+pub fn beside_pairs() -> Vec<Input> {
+    let chain = Input {
+        size: "a chain",
+        call: Call {
+            catalogue: catalogues::chain(),
+            ..largest(Entry::Catalogue)
+        },
+    };
+    let equal = Input {
+        size: "equal views",
+        call: Call {
+            catalogue: catalogues::equal(),
+            ..middle(Entry::Catalogue)
+        },
+    };
+    let inputs = by_size(Entry::Catalogue).into_iter();
+    inputs.chain([chain, equal]).collect()
+}
+
 fn of_everything(call: Call) -> Call {
     Call {
         query: concepts::everything(),

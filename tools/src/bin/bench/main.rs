@@ -11,10 +11,10 @@ mod states;
 mod table;
 mod timing;
 
-use bikuvoa::layout::MAX_OBJECTS;
+use bikuvoa::layout::{self, MAX_OBJECTS, MAX_VIEWS};
 use inputs::Input;
 use std::time::{Duration, Instant};
-use table::{Beside, Random, Row};
+use table::{Beside, Pairs, Random, Row};
 use timing::{OF_MANY_INPUTS, OF_ONE_INPUT};
 use tools::call::{Answerer, Call, Entry};
 use tools::proved::Proved;
@@ -54,6 +54,13 @@ fn print_tables() -> Result<(), String> {
     let beside = beside.iter().map(measure_beside);
     let beside: Vec<Beside> = beside.collect::<Result<_, _>>()?;
     table::print_beside_select(&beside);
+    let catalogues = inputs::beside_pairs();
+    let pairs = catalogues.iter().flat_map(|input| {
+        let entries = [Entry::Decide, Entry::Holds];
+        entries.map(|entry| measure_pairs(input, entry))
+    });
+    let pairs: Vec<Pairs> = pairs.collect::<Result<_, _>>()?;
+    table::print_beside_pairs(&pairs);
     let (nested, flat) = (inputs::nested(), inputs::flat());
     let (nested, flat) = (timing::proved(&nested)?, timing::proved(&flat)?);
     let (nested, flat) = timing::in_turn(OF_ONE_INPUT, nested, flat);
@@ -107,5 +114,36 @@ fn measure_beside(input: &Input) -> Result<Beside, String> {
         links: outs[0],
         counted,
         selected,
+    })
+}
+
+/// A catalogue, and a call of decide for each ordered pair of its views, or of holds
+/// for each pair of two different ones.
+fn measure_pairs(input: &Input, entry: Entry) -> Result<Pairs, String> {
+    let call = &input.call;
+    let views = layout::views(&call.catalogue).ok_or("a catalogue of another layout")?;
+    let pairs = views.iter().enumerate().flat_map(|(first, &query)| {
+        let others = views.iter().enumerate();
+        let others = others.filter(move |&(second, _)| entry == Entry::Decide || first != second);
+        others.map(move |(_, &view)| Call {
+            entry,
+            query: query.to_vec(),
+            view: view.to_vec(),
+            lent: entry.least_lent(0),
+            ..call.clone()
+        })
+    });
+    let pairs: Vec<Call> = pairs.collect();
+    let (mut rows, mut order, mut outs) = ([0; MAX_VIEWS], [0; MAX_VIEWS], [0; 2]);
+    Proved.answer(call, &mut rows, &mut order, &mut outs, &mut [0; 2]);
+    let (catalogue, each) = (timing::proved(call)?, timing::all_proved(&pairs)?);
+    let (catalogue, each) = timing::in_turn(OF_ONE_INPUT, catalogue, each);
+    Ok(Pairs {
+        size: input.size,
+        groups: outs[0],
+        entry,
+        calls: pairs.len(),
+        catalogue,
+        each,
     })
 }

@@ -2,6 +2,7 @@
 
 use crate::drawn::CALLS;
 use crate::inputs::{LARGEST, SMALL};
+use bikuvoa::layout::MAX_VIEWS;
 use tools::call::Entry;
 
 /// An input with its times in nanoseconds.
@@ -122,6 +123,38 @@ pub fn print_beside_select(rows: &[Beside]) {
             time(row.counted),
             time(row.selected),
             row.counted / row.selected
+        );
+    }
+}
+
+/// A catalogue with its number of groups and its time, and how many calls for its
+/// pairs with their time, in nanoseconds.
+pub struct Pairs {
+    pub size: &'static str,
+    pub groups: u64,
+    pub entry: Entry,
+    pub calls: usize,
+    pub catalogue: f64,
+    pub each: f64,
+}
+
+pub fn print_beside_pairs(rows: &[Pairs]) {
+    println!();
+    println!(
+        "| {MAX_VIEWS} views, beside calls for their pairs | groups | catalogue | calls | time of \
+         the calls | catalogue / calls |"
+    );
+    println!("|---|--:|--:|---|--:|--:|");
+    for row in rows {
+        println!(
+            "| {} | {} | {} | {} of {} | {} | {:.2} |",
+            row.size,
+            row.groups,
+            time(row.catalogue),
+            row.calls,
+            row.entry.name(),
+            time(row.each),
+            row.catalogue / row.each
         );
     }
 }

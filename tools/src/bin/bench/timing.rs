@@ -74,6 +74,21 @@ fn check_accepted(call: &Call, number: u16) -> Result<(), String> {
     }
 }
 
+/// Calls that need as many lent words, one after the other, with the same words.
+pub fn all_proved(calls: &[Call]) -> Result<impl FnMut() + '_, String> {
+    let mut lent = vec![0; calls.first().map_or(0, |call| call.lent)];
+    let (mut outs, mut sets) = ([0; 2], [0; 2]);
+    let mut answer = move |call| Proved.answer(call, &mut lent, &mut [], &mut outs, &mut sets);
+    for call in calls {
+        check_accepted(call, answer(call))?;
+    }
+    Ok(move || {
+        for call in black_box(calls) {
+            keep(answer(call));
+        }
+    })
+}
+
 /// The call, ready to be put to the reference.
 pub fn reference(call: &Call) -> impl FnMut() + '_ {
     let (mut lent, mut order) = (vec![0; call.lent], vec![0; call.order]);
