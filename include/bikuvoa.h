@@ -1,6 +1,7 @@
-/* Bikuvoa: whether a query may be read from a stored view, the judging of states, and what a concept names.
+/* Bikuvoa: whether a query may be read from a stored view, stored views in order, the judging of states, and what a concept
+ * names.
  *
- * Nine functions over records of 16-bit words, in the machine's byte order, each record with its length in words. The format
+ * Ten functions over records of 16-bit words, in the machine's byte order, each record with its length in words. The format
  * is in docs/RECORDS.md; the builders below write it. Any words may be passed: each function returns 0, or the number of the
  * first refusal that applies (enum bikuvoa_refusal), and then no lent word and no out value is altered.
  *
@@ -12,7 +13,7 @@
  *
  * Memory. No heap; for the stack see BIKUVOA_STACK_BYTES.
  *
- * Proved, for any words (crates/bikuvoa_c): what each of the nine functions returns and writes, that it touches nothing else,
+ * Proved, for any words (crates/bikuvoa_c): what each of the ten functions returns and writes, that it touches nothing else,
  * and that it ends. Not proved: the stack, which is measured, and the inline functions of this header, which are tested.
  *
  * C89 with <stdint.h>, any later C, and C++. */
@@ -37,7 +38,7 @@ extern "C" {
 
 /* While the major version is 0, a new minor version may change the format of records. */
 #define BIKUVOA_VERSION_MAJOR 0
-#define BIKUVOA_VERSION_MINOR 4
+#define BIKUVOA_VERSION_MINOR 5
 #define BIKUVOA_VERSION_PATCH 0
 #define BIKUVOA_VERSION (BIKUVOA_VERSION_MAJOR * 10000 + BIKUVOA_VERSION_MINOR * 100 + BIKUVOA_VERSION_PATCH)
 
@@ -56,9 +57,10 @@ extern "C" {
 #define BIKUVOA_VIEW_STEPS 6
 #define BIKUVOA_MAX_OBJECTS 480
 #define BIKUVOA_MAX_FACTS 15380
+#define BIKUVOA_MAX_VIEWS 16
 
-/* Every record is its size words, then its entries' left words, then their right words. These are the places of the size
- * words, and how many there are. */
+/* A schema, a concept and a state are size words, then their entries' left words, then their right words. These are the places
+ * of the size words, and how many there are. */
 #define BIKUVOA_AT_CLASSES 0
 #define BIKUVOA_AT_ATTRIBUTES 1
 #define BIKUVOA_AT_CONSTANTS 2
@@ -80,6 +82,12 @@ extern "C" {
 #define BIKUVOA_MAX_SCHEMA_WORDS BIKUVOA_SCHEMA_WORDS(BIKUVOA_MAX_AXIOMS)
 #define BIKUVOA_MAX_CONCEPT_WORDS BIKUVOA_CONCEPT_WORDS(BIKUVOA_MAX_TOKENS)
 #define BIKUVOA_MAX_STATE_WORDS BIKUVOA_STATE_WORDS(BIKUVOA_MAX_FACTS)
+
+/* A catalogue is the count of its views and the length of each, in words, then their records one after the other. The place of
+ * the count, how many words stand before the records, and the words of the largest. */
+#define BIKUVOA_AT_VIEWS 0
+#define BIKUVOA_CATALOGUE_SIZES(views) (1 + (views))
+#define BIKUVOA_MAX_CATALOGUE_WORDS (BIKUVOA_CATALOGUE_SIZES(BIKUVOA_MAX_VIEWS) + BIKUVOA_MAX_VIEWS * BIKUVOA_MAX_CONCEPT_WORDS)
 
 /* The least number of lent words for bikuvoa_decide. */
 #define BIKUVOA_DECIDE_WORDS BIKUVOA_MAX_STATE_WORDS
@@ -116,7 +124,8 @@ enum bikuvoa_token_sort {
 
 /* What the functions return. The records are checked in the order of the parameters, each by these numbers from the lowest
  * up, and after them the attribute or the lent words, where a function takes them. 3 to 6 may be of the query or of the view:
- * bikuvoa_query_refusal tells which. */
+ * bikuvoa_query_refusal tells which. Of a catalogue the layout is checked first, by 13, then one view after the other by 3 to
+ * 6: the first that bikuvoa_view_refusal refuses is at fault. */
 enum bikuvoa_refusal {
     BIKUVOA_ACCEPTED = 0,
     BIKUVOA_BAD_SCHEMA_SHAPE = 1,
@@ -130,7 +139,8 @@ enum bikuvoa_refusal {
     BIKUVOA_BAD_ORDER = 9,
     BIKUVOA_BAD_CONSTANTS = 10,
     BIKUVOA_FEW_LENT_WORDS = 11,
-    BIKUVOA_BAD_ATTRIBUTE = 12
+    BIKUVOA_BAD_ATTRIBUTE = 12,
+    BIKUVOA_BAD_CATALOGUE = 13
 };
 
 BIKUVOA_INLINE const char *bikuvoa_refusal_text(uint16_t refusal)
@@ -163,6 +173,8 @@ BIKUVOA_INLINE const char *bikuvoa_refusal_text(uint16_t refusal)
         return "lent words: too few";
     case BIKUVOA_BAD_ATTRIBUTE:
         return "attribute: not declared";
+    case BIKUVOA_BAD_CATALOGUE:
+        return "catalogue: no view, too many, or a length that does not fit the count and the length words";
     default:
         return "a number that is no refusal";
     }
@@ -222,6 +234,17 @@ uint16_t bikuvoa_decide(const uint16_t *schema, size_t schema_words, const uint1
 uint16_t bikuvoa_holds(const uint16_t *schema, size_t schema_words, const uint16_t *query, size_t query_words,
                        const uint16_t *view, size_t view_words, uint64_t *held);
 
+/* The views of a catalogue in order, narrow ones in front. View i is held by view j if bikuvoa_holds says so with i as its query
+ * and j as its view. Views that hold each other are one group, and *groups is how many groups there are. A group is narrower
+ * than another if it is held by that one. The next group is always, of those with no narrower group still to come, the one with
+ * the lowest view number in it.
+ * - rows: bit j of word i (rows[i] >> j & 1) is 1 exactly if view i is held by view j.
+ * - order: bit i of word k (order[k] >> i & 1) is 1 exactly if view i is in the k-th group, from 0.
+ * Of both the first BIKUVOA_MAX_VIEWS words are written, 0 where there is no such view or group, and later words are unaltered.
+ * Refused as BIKUVOA_FEW_LENT_WORDS if either has fewer than BIKUVOA_MAX_VIEWS words, however many views there are. */
+uint16_t bikuvoa_catalogue(const uint16_t *schema, size_t schema_words, const uint16_t *views, size_t views_words,
+                           uint16_t *rows, size_t rows_words, uint16_t *order, size_t order_words, uint64_t *groups);
+
 /* No verdict is 0, so that no truth test tells them apart and memory that was merely cleared is not HELD: compare with
  * == BIKUVOA_HELD.
  *
@@ -262,6 +285,12 @@ typedef struct {
     size_t room;
     size_t length;
 } bikuvoa_state;
+
+typedef struct {
+    uint16_t *words;
+    size_t room;
+    size_t length;
+} bikuvoa_views;
 
 /* The next four are for the builders alone. The number as a part of a word, or the largest such part. */
 BIKUVOA_INLINE size_t bikuvoa_part(size_t number, size_t limit)
@@ -487,6 +516,33 @@ BIKUVOA_INLINE void bikuvoa_pair(bikuvoa_state *state, size_t p, size_t first, s
 BIKUVOA_INLINE void bikuvoa_name(bikuvoa_state *state, size_t k, size_t object)
 {
     bikuvoa_fact(state, bikuvoa_left(BIKUVOA_CONSTANT_KINDS, k, BIKUVOA_MAX_CONSTANTS, object), 0);
+}
+
+/* A catalogue without views. */
+BIKUVOA_INLINE bikuvoa_views bikuvoa_start_views(uint16_t *words, size_t room)
+{
+    bikuvoa_views v;
+    v.words = words;
+    v.room = room;
+    v.length = bikuvoa_start(words, room, BIKUVOA_CATALOGUE_SIZES(0));
+    return v;
+}
+
+/* Adds a view by its record, which lies elsewhere. */
+BIKUVOA_INLINE void bikuvoa_view(bikuvoa_views *views, const uint16_t *view, size_t view_words)
+{
+    uint16_t *words = views->words;
+    size_t n, sizes, length = views->length;
+    views->length = 0;
+    if (length == 0 || views->room - length <= view_words) return;
+    n = words[BIKUVOA_AT_VIEWS];
+    if (n == 65535) return;
+    sizes = BIKUVOA_CATALOGUE_SIZES(n);
+    memmove(words + sizes + 1, words + sizes, (length - sizes) * sizeof *words);
+    words[sizes] = bikuvoa_word(view_words);
+    if (view_words) memcpy(words + length + 1, view, view_words * sizeof *words);
+    words[BIKUVOA_AT_VIEWS] = bikuvoa_word(n + 1);
+    views->length = length + 1 + view_words;
 }
 
 /* Reading a state record that is accepted, as the one written with OPEN is: its length in words, its number of facts, and of

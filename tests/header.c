@@ -29,7 +29,8 @@ static void numbers(void)
     check(BIKUVOA_ATTRIBUTE_KINDS == 24 && BIKUVOA_CONSTANT_KINDS == 32 && BIKUVOA_FACT_KINDS == 36, "the kinds of facts", 0);
     check(BIKUVOA_MAX_OBJECTS <= BIKUVOA_OBJECT_PART && BIKUVOA_MAX_CLASSES <= BIKUVOA_BYTE_PART, "parts of words", 0);
     check(BIKUVOA_MAX_CLASSES <= 32 && BIKUVOA_MAX_ATTRIBUTES <= 32, "a bit of a set for each", 0);
-    check(BIKUVOA_RELATES == 5 && BIKUVOA_COMMON == 9 && BIKUVOA_BAD_ATTRIBUTE == 12, "the last of each list", 0);
+    check(BIKUVOA_MAX_VIEWS == 16 && BIKUVOA_MAX_CATALOGUE_WORDS == 2097, "the largest catalogue", 0);
+    check(BIKUVOA_RELATES == 5 && BIKUVOA_COMMON == 9 && BIKUVOA_BAD_CATALOGUE == 13, "the last of each list", 0);
     check(BIKUVOA_VERSION >= 100, "the version", 0);
 }
 
@@ -37,10 +38,10 @@ static void texts(void)
 {
     static const char *const BEGINS[] = {"accepted", "schema: ", "schema: ", "query or view: ", "query or view: ",
                                          "query or view: ", "query or view: ", "state: ", "state: ", "state: ", "state: ",
-                                         "lent words: ", "attribute: "};
+                                         "lent words: ", "attribute: ", "catalogue: "};
     const char *unknown = bikuvoa_refusal_text(65535);
     uint16_t r, q;
-    for (r = 0; r <= BIKUVOA_BAD_ATTRIBUTE; r++) {
+    for (r = 0; r <= BIKUVOA_BAD_CATALOGUE; r++) {
         check(strncmp(bikuvoa_refusal_text(r), BEGINS[r], strlen(BEGINS[r])) == 0, "the text's record", r);
         check(strcmp(bikuvoa_refusal_text(r), unknown) != 0, "a refusal's text", r);
         for (q = 0; q < r; q++) check(strcmp(bikuvoa_refusal_text(r), bikuvoa_refusal_text(q)) != 0, "a text of its own", r);
@@ -54,7 +55,7 @@ static void verdicts(void)
     uint16_t r;
     check(BIKUVOA_HELD != 0 && BIKUVOA_OPEN != 0 && BIKUVOA_REFUSED != 0, "no verdict is 0", 0);
     check(bikuvoa_verdict_of(0, &objects) == BIKUVOA_HELD, "held", 0);
-    for (r = BIKUVOA_BAD_SCHEMA_SHAPE; r <= BIKUVOA_BAD_ATTRIBUTE; r++)
+    for (r = BIKUVOA_BAD_SCHEMA_SHAPE; r <= BIKUVOA_BAD_CATALOGUE; r++)
         check(bikuvoa_verdict_of(r, &objects) == BIKUVOA_REFUSED, "refused", r);
     for (objects = 1; objects <= BIKUVOA_MAX_OBJECTS; objects++)
         if (bikuvoa_verdict_of(0, &objects) != BIKUVOA_OPEN) break;
@@ -126,7 +127,18 @@ static bikuvoa_state facts(uint16_t *words, size_t room)
     return s;
 }
 
-enum { CLUB, ROWERS, RECORDED, FACTS, BUILDS };
+/* Both of the club's concepts, and between them a view without words. */
+static bikuvoa_views both_views(uint16_t *words, size_t room)
+{
+    uint16_t view[LARGEST];
+    bikuvoa_views v = bikuvoa_start_views(words, room);
+    bikuvoa_view(&v, view, rowers(view, LARGEST).length);
+    bikuvoa_view(&v, NULL, 0);
+    bikuvoa_view(&v, view, recorded(view, LARGEST).length);
+    return v;
+}
+
+enum { CLUB, ROWERS, RECORDED, FACTS, VIEWS, BUILDS };
 
 static size_t build(int which, uint16_t *words, size_t room)
 {
@@ -134,7 +146,8 @@ static size_t build(int which, uint16_t *words, size_t room)
     case CLUB: return club(words, room).length;
     case ROWERS: return rowers(words, room).length;
     case RECORDED: return recorded(words, room).length;
-    default: return facts(words, room).length;
+    case FACTS: return facts(words, room).length;
+    default: return both_views(words, room).length;
     }
 }
 
@@ -188,6 +201,8 @@ static void literally(void)
     static const uint16_t CONCEPT[] = {14, 2, 1, 2, 4, 5, 3, 6, 8, 4, 5, 2, 7, 5, 9, 4,
                                        2, 0, 0, 0, 0, 1, 0, 0, 0, 0, 0, 0, 0, 0};
     static const uint16_t STATE[] = {3, 7, 1, 11778, 15873, 15873, 15873, 16386, 16896, 0, 0, 0, 1, 2, 0, 0};
+    static const uint16_t CATALOGUE[] = {3, 14, 0, 22, 6, 1, 1, 5, 1, 6, 8, 4, 1, 0, 3, 3, 0, 0,
+                                         10, 3, 1, 5, 1, 6, 2, 6, 1, 6, 8, 4, 0, 0, 2, 0, 0, 1, 3, 2, 0, 0};
     uint16_t words[LARGEST];
     bikuvoa_schema s = bikuvoa_start_schema(words, LARGEST, 3, 2, 1);
     bikuvoa_concept c;
@@ -215,13 +230,16 @@ static void literally(void)
     check(c.length * sizeof *words == sizeof CONCEPT && memcmp(words, CONCEPT, sizeof CONCEPT) == 0, "a concept's words", 0);
     check(facts(words, LARGEST).length * sizeof *words == sizeof STATE, "a state's length", 0);
     check(memcmp(words, STATE, sizeof STATE) == 0, "a state's words", 0);
+    check(both_views(words, LARGEST).length * sizeof *words == sizeof CATALOGUE, "a catalogue's length", 0);
+    check(memcmp(words, CATALOGUE, sizeof CATALOGUE) == 0, "a catalogue's words", 0);
 }
 
-/* A concept of the most entries that a count can say. */
+/* A concept and a catalogue of the most entries that a count can say. */
 static void counts(void)
 {
     static uint16_t words[BIKUVOA_CONCEPT_WORDS(65535 + 1)];
     bikuvoa_concept c = bikuvoa_start_concept(words, sizeof words / sizeof *words);
+    bikuvoa_views v;
     c.length = BIKUVOA_CONCEPT_WORDS(65534);
     bikuvoa_forward(&c, 0);
     check(c.length == BIKUVOA_CONCEPT_WORDS(65535), "65,535 tokens", 0);
@@ -230,6 +248,35 @@ static void counts(void)
     check(c.length == 0, "65,536", 0);
     bikuvoa_forward(&c, 0);
     check(c.length == 0 && words[BIKUVOA_AT_STEPS] == 1, "after 65,536", 0);
+    v = bikuvoa_start_views(words, sizeof words / sizeof *words);
+    words[BIKUVOA_AT_VIEWS] = 65534;
+    v.length = BIKUVOA_CATALOGUE_SIZES(65534);
+    bikuvoa_view(&v, NULL, 0);
+    check(v.length == BIKUVOA_CATALOGUE_SIZES(65535) && words[BIKUVOA_AT_VIEWS] == 65535, "65,535 views", 0);
+    bikuvoa_view(&v, NULL, 0);
+    check(v.length == 0 && words[BIKUVOA_AT_VIEWS] == 65535, "65,536 views", 0);
+    bikuvoa_view(&v, NULL, 0);
+    check(v.length == 0 && words[BIKUVOA_AT_VIEWS] == 65535, "after 65,536 views", 0);
+}
+
+/* A view of more words than a length word can say: the catalogue is refused, and not read as another. */
+static void long_view(void)
+{
+    static uint16_t view[65536], words[BIKUVOA_CATALOGUE_SIZES(1) + 65536];
+    static const uint16_t NOTHING_DECLARED[BIKUVOA_SCHEMA_SIZES] = {0, 0, 0, 0};
+    uint16_t rows[BIKUVOA_MAX_VIEWS], order[BIKUVOA_MAX_VIEWS];
+    uint64_t groups;
+    size_t length;
+    int more;
+    for (more = 0; more < 2; more++) {
+        bikuvoa_views v = bikuvoa_start_views(words, sizeof words / sizeof *words);
+        length = more ? 65536 : 65535;
+        bikuvoa_view(&v, view, length);
+        check(v.length == BIKUVOA_CATALOGUE_SIZES(1) + length && words[1] == 65535, "a long view", more);
+        check(bikuvoa_catalogue(NOTHING_DECLARED, BIKUVOA_SCHEMA_SIZES, v.words, v.length, rows, BIKUVOA_MAX_VIEWS, order,
+                                BIKUVOA_MAX_VIEWS, &groups)
+                  == (more ? BIKUVOA_BAD_CATALOGUE : BIKUVOA_BAD_CONCEPT_SHAPE), "its refusal", more);
+    }
 }
 
 static void states(void)
@@ -321,6 +368,7 @@ int main(int argc, char **argv)
     bounds();
     literally();
     counts();
+    long_view();
     states();
     large_numbers();
     printf("%d checks passed\n", passed);
