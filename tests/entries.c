@@ -1,73 +1,17 @@
 /* The entries, called from C through include/bikuvoa.h: document 01's twelve small states, a triple of each verdict, links
  * counted by hand, what concepts name, every refusal that each entry has, alone and with later faults beside it, records
  * checked one at a time, null pointers, states and concepts at the limits, and the deepest concepts on the documented stack.
- * Not proved; it prints how many checks passed. */
+ * What a catalogue answers is in catalogue.c. Not proved; it prints how many checks passed. */
 #define _DEFAULT_SOURCE
-#include "bikuvoa.h"
+#include "records.h"
 #include <pthread.h>
-#include <stdio.h>
-#include <stdlib.h>
-#include <string.h>
 #include <sys/mman.h>
 
 #define UNTOUCHED 0xBEEF
 #define UNTOUCHED_SET UINT32_C(0xBEEFBEEF)
 #define UNTOUCHED_OUT UINT64_C(0xBEEFBEEFBEEFBEEF)
 
-static int passed;
-
-static void check(int ok, const char *what, int row)
-{
-    if (!ok) {
-        fprintf(stderr, "failed: %s, row %d\n", what, row);
-        exit(1);
-    }
-    passed++;
-}
-
 /* The records. */
-
-typedef struct {
-    size_t words;
-    const uint16_t *at;
-} Record;
-
-typedef struct {
-    uint16_t sort, argument;
-} Token;
-
-typedef struct {
-    size_t n;
-    const Token *at;
-} Tokens;
-
-#define TOKENS(...) {sizeof((Token[]){__VA_ARGS__}) / sizeof(Token), (const Token[]){__VA_ARGS__}}
-#define CLASS(a) {BIKUVOA_CLASS, a}
-#define EVERYTHING {BIKUVOA_EVERYTHING, 0}
-#define CONSTANT(k) {BIKUVOA_CONSTANT, k}
-#define BOTH {BIKUVOA_BOTH, 0}
-#define EMPTY {BIKUVOA_EMPTY, 0}
-#define FORWARD(p) {BIKUVOA_FORWARD, p}
-#define BACKWARD(p) {BIKUVOA_BACKWARD, p}
-#define REACHED {BIKUVOA_REACHED, 0}
-#define COMMON {BIKUVOA_COMMON, 0}
-
-static uint16_t *take(size_t words)
-{
-    static uint16_t pool[4000];
-    static size_t taken;
-    taken += words;
-    if (taken > sizeof pool / sizeof *pool) abort();
-    return pool + taken - words;
-}
-
-static Record concept_of(Tokens tokens)
-{
-    size_t words = BIKUVOA_CONCEPT_WORDS(tokens.n);
-    bikuvoa_concept c = bikuvoa_start_concept(take(words), words);
-    for (size_t i = 0; i < tokens.n; i++) bikuvoa_token(&c, tokens.at[i].sort, tokens.at[i].argument);
-    return (Record){c.length, c.words};
-}
 
 enum { STRAP, PERSON };
 enum { WEARS };
@@ -81,13 +25,6 @@ static Record schema_x(int needs)
     bikuvoa_relates(&x, WEARS, PERSON, STRAP);
     if (needs) bikuvoa_necessary(&x, STRAP, WEARS);
     return (Record){x.length, x.words};
-}
-
-static Record declaring(size_t classes, size_t attributes, size_t constants)
-{
-    size_t words = BIKUVOA_SCHEMA_WORDS(0);
-    bikuvoa_schema schema = bikuvoa_start_schema(take(words), words, classes, attributes, constants);
-    return (Record){schema.length, schema.words};
 }
 
 /* Axioms of every kind, which mention every class and every attribute. */
@@ -119,10 +56,20 @@ static Record state_s(void)
     return (Record){s.length, s.words};
 }
 
-static Record x, x_needs, no_axioms, one_attribute, all_declared, all_mentioned, s, no_objects, everything, person;
+/* Two views. */
+static Record catalogue_of(Record first, Record second)
+{
+    size_t words = BIKUVOA_CATALOGUE_SIZES(2) + first.words + second.words;
+    bikuvoa_views v = bikuvoa_start_views(take(words), words);
+    bikuvoa_view(&v, first.at, first.words);
+    bikuvoa_view(&v, second.at, second.words);
+    return (Record){v.length, v.words};
+}
 
-/* A faulty record for each refusal of a schema, a concept and a state. */
-static Record bad_schemas[2], bad_concepts[4], bad_states[4];
+static Record x, x_needs, no_axioms, one_attribute, all_declared, all_mentioned, s, no_objects, everything, person, both_views;
+
+/* A faulty record for each refusal of a schema, a concept and a state, and one with that of a catalogue. */
+static Record bad_schemas[2], bad_concepts[4], bad_states[4], bad_catalogue;
 
 static void make_records(void)
 {
@@ -137,6 +84,7 @@ static void make_records(void)
     no_objects = (Record){empty.length, empty.words};
     everything = concept_of((Tokens)TOKENS(EVERYTHING));
     person = concept_of((Tokens)TOKENS(CLASS(PERSON)));
+    both_views = catalogue_of(everything, person);
 }
 
 static void make_bad_records(void)
@@ -167,15 +115,22 @@ static void make_bad_records(void)
     bad_states[2] = (Record){turned.length, turned.words};
     bikuvoa_state unnamed = bikuvoa_start_state(take(BIKUVOA_STATE_WORDS(0)), BIKUVOA_STATE_WORDS(0), 1);
     bad_states[3] = (Record){unnamed.length, unnamed.words};
+
+    bad_catalogue = (Record){both_views.words - 1, both_views.at};
 }
 
-/* A call of any entry, by the record at each place, or the number of lent words, or the attribute. */
+/* A call of any entry, by the record at each place, or the number of lent words, or the attribute. The lent words of the
+ * catalogue are its rows; those for the order have a place of their own. */
 
-enum { SCHEMA, QUERY, VIEW, STATE, LENT, ATTRIBUTE, PLACES };
-enum { CHECK_CONCEPT, CHECK_VIEW, SELECT, LEGAL, COUNTEREXAMPLE, LINKS_BY_FIRST, LINKS_BY_SECOND, DECIDE, HOLDS, ENTRIES };
-static const int HAS[ENTRIES][PLACES] = {{1, 1, 0, 0, 0, 0}, {1, 0, 1, 0, 0, 0}, {1, 1, 0, 1, 1, 0}, {1, 0, 0, 1, 0, 0},
-                                         {1, 1, 1, 1, 0, 0}, {1, 1, 0, 1, 0, 1}, {1, 1, 0, 1, 0, 1}, {1, 1, 1, 0, 1, 0},
-                                         {1, 1, 1, 0, 0, 0}};
+enum { SCHEMA, QUERY, VIEW, STATE, LENT, ATTRIBUTE, VIEWS, ORDER, PLACES };
+enum {
+    CHECK_CONCEPT, CHECK_VIEW, SELECT, LEGAL, COUNTEREXAMPLE, LINKS_BY_FIRST, LINKS_BY_SECOND, DECIDE, HOLDS, CATALOGUE, ENTRIES
+};
+static const int HAS[ENTRIES][PLACES] = {
+    {1, 1, 0, 0, 0, 0, 0, 0}, {1, 0, 1, 0, 0, 0, 0, 0}, {1, 1, 0, 1, 1, 0, 0, 0}, {1, 0, 0, 1, 0, 0, 0, 0},
+    {1, 1, 1, 1, 0, 0, 0, 0}, {1, 1, 0, 1, 0, 1, 0, 0}, {1, 1, 0, 1, 0, 1, 0, 0}, {1, 1, 1, 0, 1, 0, 0, 0},
+    {1, 1, 1, 0, 0, 0, 0, 0}, {1, 0, 0, 0, 1, 0, 1, 1},
+};
 
 #define ON(...) ((const Record[PLACES]){__VA_ARGS__})
 #define NONE {0, NULL}
@@ -186,9 +141,12 @@ static const int HAS[ENTRIES][PLACES] = {{1, 1, 0, 0, 0, 0}, {1, 0, 1, 0, 0, 0},
 enum { CLASS_SET = 1, ATTRIBUTE_SET = 3, SETS = 5 };
 static uint32_t sets[SETS];
 
+/* The order that the catalogue writes. */
+static uint16_t order[BIKUVOA_MAX_VIEWS];
+
 static int call(int entry, const Record *r, uint16_t *words, uint64_t *outs)
 {
-    Record schema = r[SCHEMA], query = r[QUERY], view = r[VIEW], state = r[STATE];
+    Record schema = r[SCHEMA], query = r[QUERY], view = r[VIEW], state = r[STATE], views = r[VIEWS];
     uint16_t attribute = (uint16_t)r[ATTRIBUTE].words;
     switch (entry) {
     case CHECK_CONCEPT:
@@ -211,8 +169,11 @@ static int call(int entry, const Record *r, uint16_t *words, uint64_t *outs)
     case DECIDE:
         return bikuvoa_decide(schema.at, schema.words, query.at, query.words, view.at, view.words, words, r[LENT].words, outs,
                               outs + 1);
-    default:
+    case HOLDS:
         return bikuvoa_holds(schema.at, schema.words, query.at, query.words, view.at, view.words, outs);
+    default:
+        return bikuvoa_catalogue(schema.at, schema.words, views.at, views.words, words, r[LENT].words,
+                                 r[ORDER].words ? order : NULL, r[ORDER].words, outs);
     }
 }
 
@@ -227,6 +188,18 @@ static int untouched_from(size_t from)
 {
     while (from <= BIKUVOA_DECIDE_WORDS && lent[from] == UNTOUCHED) from++;
     return from == BIKUVOA_DECIDE_WORDS + 1;
+}
+
+static void clear_order(void)
+{
+    for (int i = 0; i < BIKUVOA_MAX_VIEWS; i++) order[i] = UNTOUCHED;
+}
+
+static int order_untouched(void)
+{
+    int i = 0;
+    while (i < BIKUVOA_MAX_VIEWS && order[i] == UNTOUCHED) i++;
+    return i == BIKUVOA_MAX_VIEWS;
 }
 
 static void clear_sets(void)
@@ -359,39 +332,49 @@ static void yes_or_no(void)
 /* Refusals. */
 
 static const int FIRST_NUMBER[PLACES] = {BIKUVOA_BAD_SCHEMA_SHAPE, BIKUVOA_BAD_CONCEPT_SHAPE, BIKUVOA_BAD_CONCEPT_SHAPE,
-                                         BIKUVOA_BAD_STATE_SHAPE, BIKUVOA_FEW_LENT_WORDS, BIKUVOA_BAD_ATTRIBUTE};
-static const int NUMBERS[PLACES] = {2, 4, 4, 4, 1, 1};
+                                         BIKUVOA_BAD_STATE_SHAPE, BIKUVOA_FEW_LENT_WORDS, BIKUVOA_BAD_ATTRIBUTE,
+                                         BIKUVOA_BAD_CATALOGUE, BIKUVOA_FEW_LENT_WORDS};
+static const int NUMBERS[PLACES] = {2, 4, 4, 4, 1, 1, 1, 1};
+
+/* When each place is looked at: the views before any lent words. */
+static const int TURN[PLACES] = {0, 1, 2, 3, 5, 7, 4, 6};
 
 /* Place p of a call, good or faulty in the n-th way. */
 static Record record_at(int entry, int p, int faulty, int n)
 {
-    const size_t least = entry == DECIDE ? BIKUVOA_DECIDE_WORDS : 3;
-    const Record good[PLACES] = {x, everything, person, s, WORDS(least), NUMBER(WEARS)};
-    const Record few = WORDS(least - 1), undeclared = NUMBER(WEARS + 1);
+    const size_t least = entry == DECIDE ? BIKUVOA_DECIDE_WORDS : entry == CATALOGUE ? BIKUVOA_MAX_VIEWS : 3;
+    const Record good[PLACES] = {x, everything, person, s, WORDS(least), NUMBER(WEARS), both_views, WORDS(BIKUVOA_MAX_VIEWS)};
+    const Record few = WORDS(least - 1), undeclared = NUMBER(WEARS + 1), few_order = WORDS(BIKUVOA_MAX_VIEWS - 1);
     if (!faulty) return good[p];
-    if (p == SCHEMA) return bad_schemas[n];
-    if (p == STATE) return bad_states[n];
-    if (p == LENT) return few;
-    if (p == ATTRIBUTE) return undeclared;
-    return bad_concepts[n];
+    switch (p) {
+    case SCHEMA: return bad_schemas[n];
+    case STATE: return bad_states[n];
+    case LENT: return few;
+    case ATTRIBUTE: return undeclared;
+    case VIEWS: return bad_catalogue;
+    case ORDER: return few_order;
+    default: return bad_concepts[n];
+    }
 }
 
 static void refusals(void)
 {
     clear_lent();
     clear_sets();
+    clear_order();
     for (int entry = 0; entry < ENTRIES; entry++)
         for (int p = 0; p < PLACES; p++)
             for (int n = 0; HAS[entry][p] && n < NUMBERS[p]; n++)
                 for (int later = 0; later < 2; later++) {
                     Record r[PLACES];
-                    for (int q = 0; q < PLACES; q++) r[q] = record_at(entry, q, q == p || (later && q > p), q == p ? n : 0);
+                    for (int q = 0; q < PLACES; q++)
+                        r[q] = record_at(entry, q, q == p || (later && TURN[q] > TURN[p]), q == p ? n : 0);
                     uint64_t outs[2] = {UNTOUCHED_OUT, ~UNTOUCHED_OUT};
                     int row = 1000 * entry + 100 * p + 10 * n + later;
                     check(call(entry, r, lent, outs) == FIRST_NUMBER[p] + n, "refusal", row);
                     check(outs[0] == UNTOUCHED_OUT && outs[1] == ~UNTOUCHED_OUT, "an out value of a refused call", row);
                     check(sets_are(UNTOUCHED_SET, UNTOUCHED_SET), "sets of a refused call", row);
-                    check(untouched_from(0), "lent words of a refused call", row);
+                    check(untouched_from(0) && order_untouched(), "lent words of a refused call", row);
                 }
 }
 
@@ -402,6 +385,7 @@ static void nulls(void)
     uint64_t outs[2] = {UNTOUCHED_OUT, ~UNTOUCHED_OUT};
     clear_lent();
     clear_sets();
+    clear_order();
     for (int entry = 0; entry < ENTRIES; entry++)
         for (int p = 0; p < PLACES; p++) {
             if (!HAS[entry][p] || p == ATTRIBUTE) continue;
@@ -409,7 +393,7 @@ static void nulls(void)
             for (int q = 0; q < PLACES; q++) r[q] = record_at(entry, q, 0, 0);
             r[p] = (Record)NONE;
             check(call(entry, r, p == LENT ? NULL : lent, outs) == FIRST_NUMBER[p], "null", 10 * entry + p);
-            check(outs[0] == UNTOUCHED_OUT && outs[1] == ~UNTOUCHED_OUT && untouched_from(0)
+            check(outs[0] == UNTOUCHED_OUT && outs[1] == ~UNTOUCHED_OUT && untouched_from(0) && order_untouched()
                       && sets_are(UNTOUCHED_SET, UNTOUCHED_SET), "null alters nothing", 10 * entry + p);
         }
     check(call(SELECT, ON(no_axioms, everything, NONE, no_objects, NONE), NULL, outs) == 0 && outs[0] == 0, "no lent words", 0);
@@ -1001,29 +985,46 @@ static void measure(const Record *r, int row, size_t *most)
     }
 }
 
+/* As many views as there may be, of every shape. */
+static Record deepest_views(size_t class, size_t attributes)
+{
+    static uint16_t words[BIKUVOA_MAX_CATALOGUE_WORDS];
+    uint16_t view_words[BIKUVOA_MAX_CONCEPT_WORDS];
+    bikuvoa_views views = bikuvoa_start_views(words, BIKUVOA_MAX_CATALOGUE_WORDS);
+    for (int i = 0; i < BIKUVOA_MAX_VIEWS; i++) {
+        Record view = deepest(view_words, i < SHAPES ? PERSON : class, attributes, BIKUVOA_VIEW_STEPS, i % SHAPES);
+        bikuvoa_view(&views, view.at, view.words);
+    }
+    return (Record){views.length, words};
+}
+
 static void stacks(void)
 {
     static uint16_t query_words[BIKUVOA_MAX_CONCEPT_WORDS], view_words[BIKUVOA_MAX_CONCEPT_WORDS];
     size_t most[ENTRIES] = {0};
     bikuvoa_state largest = largest_state();
     const Record lent_words = WORDS(BIKUVOA_DECIDE_WORDS), full = {largest.length, largest.words};
+    const Record order_words = WORDS(BIKUVOA_MAX_VIEWS);
     for (int limits = 0; limits < 2; limits++) {
         Record schema = limits ? limit_schema() : x, state = limits ? full : s;
         size_t attributes = schema.at[BIKUVOA_AT_ATTRIBUTES], last_class = schema.at[BIKUVOA_AT_CLASSES] - 1u;
+        Record views = deepest_views(last_class, attributes);
         for (int shape = 0; shape < SHAPES; shape++) {
             Record query = deepest(query_words, PERSON, attributes, BIKUVOA_QUERY_STEPS, shape);
-            measure(ON(schema, query, person, state, lent_words), 100 * limits + shape, most);
+            measure(ON(schema, query, person, state, lent_words, NUMBER(WEARS), views, order_words), 100 * limits + shape,
+                    most);
             query = deepest(query_words, PERSON, attributes, BIKUVOA_QUERY_STEPS, STAR);
             Record view = deepest(view_words, last_class, attributes, BIKUVOA_VIEW_STEPS, shape);
-            measure(ON(schema, query, view, state, lent_words), 100 * limits + SHAPES + shape, most);
+            measure(ON(schema, query, view, state, lent_words, NUMBER(WEARS), views, order_words),
+                    100 * limits + SHAPES + shape, most);
         }
     }
     check(most_objects > 300, "a verdict that needs many objects", 0);
     printf("stack, measured in KB: check of a concept %zu, of a view %zu, select %zu, legal %zu, counterexample %zu, "
-           "links by first %zu, links by second %zu, decide %zu, holds %zu; allowed %d\n",
+           "links by first %zu, links by second %zu, decide %zu, holds %zu, catalogue %zu; allowed %d\n",
            most[CHECK_CONCEPT] / 1024, most[CHECK_VIEW] / 1024, most[SELECT] / 1024, most[LEGAL] / 1024,
            most[COUNTEREXAMPLE] / 1024, most[LINKS_BY_FIRST] / 1024, most[LINKS_BY_SECOND] / 1024, most[DECIDE] / 1024,
-           most[HOLDS] / 1024, BIKUVOA_STACK_BYTES / 1024);
+           most[HOLDS] / 1024, most[CATALOGUE] / 1024, BIKUVOA_STACK_BYTES / 1024);
 }
 
 int main(void)
