@@ -13,11 +13,14 @@
 #define OWN_FRAMES 65536
 
 enum { HELD, OPEN, REFUSED, DEEP, CASES };
-enum { CHECK_CONCEPT, CHECK_VIEW, SELECT, LEGAL, COUNTEREXAMPLE, LINKS_BY_FIRST, LINKS_BY_SECOND, DECIDE, HOLDS, ENTRIES };
+enum {
+    CHECK_CONCEPT, CHECK_VIEW, SELECT, LEGAL, COUNTEREXAMPLE, LINKS_BY_FIRST, LINKS_BY_SECOND, DECIDE, HOLDS, CATALOGUE, ENTRIES
+};
 
 typedef struct {
     bikuvoa_concept query, view;
     bikuvoa_state state;
+    bikuvoa_views views;
 } Case;
 
 typedef struct {
@@ -33,11 +36,11 @@ static Answer expected[CASES][ENTRIES];
 static pthread_barrier_t barrier;
 
 /* Class 0 needs attribute 0, which goes from class 1 to class 2: each object of 0 is in 1. No two states have as many links.
- * The deepest query names two classes, any other concept one. */
+ * The deepest query names two classes, any other concept one. A catalogue has the view, then the query. */
 static void make_cases(void)
 {
     static uint16_t schema_words[BIKUVOA_SCHEMA_WORDS(2)], words[CASES][2][BIKUVOA_MAX_CONCEPT_WORDS];
-    static uint16_t state_words[CASES][BIKUVOA_STATE_WORDS(3 + 2 * CASES)];
+    static uint16_t state_words[CASES][BIKUVOA_STATE_WORDS(3 + 2 * CASES)], views_words[CASES][BIKUVOA_MAX_CATALOGUE_WORDS];
     schema = bikuvoa_start_schema(schema_words, BIKUVOA_SCHEMA_WORDS(2), 3, 1, 0);
     bikuvoa_necessary(&schema, 0, 0);
     bikuvoa_relates(&schema, 0, 1, 2);
@@ -70,6 +73,12 @@ static void make_cases(void)
         bikuvoa_common(&cases[DEEP].query);
     }
     bikuvoa_class(&cases[DEEP].view, 0);
+    for (size_t i = 0; i < CASES; i++) {
+        Case *c = &cases[i];
+        c->views = bikuvoa_start_views(views_words[i], BIKUVOA_MAX_CATALOGUE_WORDS);
+        bikuvoa_view(&c->views, c->view.words, c->view.length);
+        bikuvoa_view(&c->views, c->query.words, c->query.length);
+    }
 }
 
 static void call(const Case *c, int entry, Answer *a)
@@ -99,8 +108,11 @@ static void call(const Case *c, int entry, Answer *a)
     else if (entry == DECIDE)
         a->returned = bikuvoa_decide(schema.words, schema.length, q.words, q.length, v.words, v.length, a->lent,
                                      BIKUVOA_DECIDE_WORDS, &a->outs[0], &a->outs[1]);
-    else
+    else if (entry == HOLDS)
         a->returned = bikuvoa_holds(schema.words, schema.length, q.words, q.length, v.words, v.length, &a->outs[0]);
+    else
+        a->returned = bikuvoa_catalogue(schema.words, schema.length, c->views.words, c->views.length, a->lent,
+                                        BIKUVOA_MAX_VIEWS, a->lent + BIKUVOA_MAX_VIEWS, BIKUVOA_MAX_VIEWS, &a->outs[0]);
 }
 
 static int same(const Answer *a, const Answer *b)
@@ -113,6 +125,13 @@ static int same(const Answer *a, const Answer *b)
 static int names(const Answer *a, const uint32_t *named)
 {
     return a->sets[0] == named[0] && a->sets[1] == named[1] && a->outs[0] == named[2];
+}
+
+/* Whether a catalogue left these as the first two rows, the first two groups and their count. */
+static int orders(const Answer *a, const uint16_t *said)
+{
+    return memcmp(a->lent, said, 2 * sizeof *said) == 0 && memcmp(a->lent + BIKUVOA_MAX_VIEWS, said + 2, 2 * sizeof *said) == 0
+           && a->outs[0] == said[4];
 }
 
 /* Returns its argument if an answer differs. Each thread begins at another place. */
@@ -136,6 +155,10 @@ int main(void)
     static const int NUMBERS[CASES] = {0, 0, BIKUVOA_BAD_TOKEN, 0};
     static const uint32_t IN_QUERY[CASES][3] = {{1, 0, 1}, {2, 0, 1}, {2, 0, 1}, {2 + 4, 1, 2}};
     static const uint32_t IN_VIEW[CASES][3] = {{2, 0, 1}, {1, 0, 1}, {99, 99, 99}, {1, 0, 1}};
+    static const int OF_VIEWS[CASES] = {0, 0, BIKUVOA_BAD_TOKEN, BIKUVOA_BAD_STEPS};
+    static const uint16_t IN_ORDER[CASES][5] = {{1, 3, 2, 1, 2}, {3, 2, 1, 2, 2},
+                                                {UNTOUCHED, UNTOUCHED, UNTOUCHED, UNTOUCHED, 99},
+                                                {UNTOUCHED, UNTOUCHED, UNTOUCHED, UNTOUCHED, 99}};
     pthread_t threads[THREADS];
     int numbers[THREADS];
     pthread_attr_t attributes;
@@ -153,6 +176,7 @@ int main(void)
         if (first->returned || first->outs[0] != links || second->returned || second->outs[0] != links) return 1;
         if (query->returned || !names(query, IN_QUERY[i])) return 1;
         if (view->returned != NUMBERS[i] || !names(view, IN_VIEW[i])) return 1;
+        if (expected[i][CATALOGUE].returned != OF_VIEWS[i] || !orders(&expected[i][CATALOGUE], IN_ORDER[i])) return 1;
     }
     if (pthread_barrier_init(&barrier, NULL, THREADS) || pthread_attr_init(&attributes)
         || pthread_attr_setstacksize(&attributes, BIKUVOA_STACK_BYTES + OWN_FRAMES)) return 1;
