@@ -1,4 +1,4 @@
-/* A libFuzzer target over the nine entries. An input is read as records of arbitrary words, or as instructions for records
+/* A libFuzzer target over the ten entries. An input is read as records of arbitrary words, or as instructions for records
  * that are mostly accepted, which may then be damaged. Every record and all lent words end at a page that cannot be touched.
  * What the entries promise of each other is checked: see check_*.
  *
@@ -20,9 +20,10 @@
 
 int LLVMFuzzerTestOneInput(const uint8_t *data, size_t size);
 
-/* How many calls of decide had each verdict, how many counts of links were above 0, or refused for the attribute, and how many
- * checks found a class twice, or more steps than a view may have. */
-static unsigned long verdicts[4], linked, undeclared, repeated, many_steps;
+/* How many calls of decide had each verdict, how many counts of links were above 0, or refused for the attribute, how many
+ * checks found a class twice, or more steps than a view may have, and how many catalogues had a group of several views, a group
+ * before one with a lower number, or another layout. */
+static unsigned long verdicts[4], linked, undeclared, repeated, many_steps, grouped, ahead, other_layout;
 
 #define CHECK(ok) ((ok) ? (void)0 : fail(#ok, __LINE__))
 
@@ -34,7 +35,7 @@ static void fail(const char *what, int line)
 
 /* Words that end where a page begins that can be neither read nor written. */
 
-enum { SCHEMA, QUERY, VIEW, STATE, LENT, WRITTEN, PLACES };
+enum { SCHEMA, QUERY, VIEW, STATE, VIEWS, LENT, ORDER, WRITTEN, PLACES };
 #define FENCED_WORDS 81920 /* more than a size word can say, and whole pages */
 
 typedef struct {
@@ -65,9 +66,9 @@ static Words copied(int place, const uint16_t *words, size_t n)
     return w;
 }
 
-static Words lent(size_t n)
+static Words lent(int place, size_t n)
 {
-    Words w = fenced(LENT, n);
+    Words w = fenced(place, n);
     memset(w.at, UNTOUCHED_BYTE, n * sizeof *w.at);
     return w;
 }
@@ -179,17 +180,39 @@ static void put_concept(Input *in, Declared d, bikuvoa_concept *c, size_t *steps
     }
 }
 
-static Words built_concept(Input *in, Declared d, int place, size_t steps)
+/* From as many bytes as may be. */
+static bikuvoa_concept some_concept(Input *in, Declared d, uint16_t *words, size_t bytes, size_t steps)
 {
-    uint16_t words[BIKUVOA_MAX_CONCEPT_WORDS];
     bikuvoa_concept c = bikuvoa_start_concept(words, BIKUVOA_MAX_CONCEPT_WORDS);
-    Input part = {in->at, below(in, 40)};
+    Input part = {in->at, below(in, bytes)};
     if (part.left > in->left) part.left = in->left;
     part.at = in->at;
     in->at += part.left;
     in->left -= part.left;
     put_concept(&part, d, &c, &steps);
+    return c;
+}
+
+static Words built_concept(Input *in, Declared d, int place, size_t steps)
+{
+    uint16_t words[BIKUVOA_MAX_CONCEPT_WORDS];
+    bikuvoa_concept c = some_concept(in, d, words, 40, steps);
     return copied(place, c.words, c.length);
+}
+
+/* Mostly few views, or up to one too many; the query and the view may be among them. */
+static Words built_views(Input *in, Declared d, const Words *r)
+{
+    uint16_t words[BIKUVOA_CATALOGUE_SIZES(BIKUVOA_MAX_VIEWS + 1) + (BIKUVOA_MAX_VIEWS + 1) * BIKUVOA_MAX_CONCEPT_WORDS];
+    bikuvoa_views v = bikuvoa_start_views(words, sizeof words / sizeof *words);
+    for (size_t n = byte(in) % 8 ? 1 + below(in, 5) : below(in, BIKUVOA_MAX_VIEWS + 2); n > 0; n--) {
+        uint16_t view[BIKUVOA_MAX_CONCEPT_WORDS];
+        size_t which = below(in, 8);
+        bikuvoa_concept c = some_concept(in, d, view, which < 2 ? 1 : 8, BIKUVOA_VIEW_STEPS);
+        if (which < 2) bikuvoa_view(&v, r[QUERY + which].at, r[QUERY + which].words);
+        else bikuvoa_view(&v, c.words, c.length);
+    }
+    return copied(VIEWS, v.words, v.length);
 }
 
 static Words built_state(Input *in, Declared d)
@@ -208,7 +231,7 @@ static Words built_state(Input *in, Declared d)
 
 static void damage(Input *in, Words *records)
 {
-    Words *w = &records[below(in, STATE + 1)];
+    Words *w = &records[below(in, VIEWS + 1)];
     size_t way = below(in, 8);
     if (way == 0 && w->words) w->words--;
     else if (way == 1 && w->words) w->words--, w->at++;
@@ -226,7 +249,7 @@ static uint16_t some_attribute(Input *in)
 
 static uint16_t selected(const Words *r, Words concept, Words state, size_t room, uint8_t *in_it)
 {
-    Words l = lent(room);
+    Words l = lent(LENT, room);
     uint64_t count = UNTOUCHED_OUT, ones = 0;
     uint16_t returned = bikuvoa_select(r[SCHEMA].at, r[SCHEMA].words, concept.at, concept.words, state.at, state.words, l.at,
                                        l.words, &count);
@@ -363,7 +386,7 @@ static uint16_t check_decide(const Words *r, size_t room)
 {
     uint8_t in_query[BIKUVOA_MAX_OBJECTS], in_view[BIKUVOA_MAX_OBJECTS];
     uint64_t objects = UNTOUCHED_OUT, object = UNTOUCHED_OUT, found;
-    Words l = lent(room);
+    Words l = lent(LENT, room);
     uint16_t returned = bikuvoa_decide(r[SCHEMA].at, r[SCHEMA].words, r[QUERY].at, r[QUERY].words, r[VIEW].at, r[VIEW].words,
                                        l.at, l.words, &objects, &object);
     enum bikuvoa_verdict verdict = bikuvoa_verdict_of(returned, &objects);
@@ -385,6 +408,85 @@ static uint16_t check_decide(const Words *r, size_t room)
     return returned;
 }
 
+/* The views of a catalogue; how many there are, or 0 if it has another layout. */
+static size_t views_in(Words views, Words *at)
+{
+    size_t n = views.words ? views.at[BIKUVOA_AT_VIEWS] : 0, start = BIKUVOA_CATALOGUE_SIZES(n);
+    if (n > BIKUVOA_MAX_VIEWS || start > views.words) return 0;
+    for (size_t i = 0; i < n; i++) {
+        at[i].at = views.at + start;
+        at[i].words = views.at[1 + i];
+        if (at[i].words > views.words - start) return 0;
+        start += at[i].words;
+    }
+    return start == views.words ? n : 0;
+}
+
+static uint16_t bad_views(const Words *r)
+{
+    Words views[BIKUVOA_MAX_VIEWS];
+    size_t n = views_in(r[VIEWS], views);
+    uint16_t returned = n ? 0 : BIKUVOA_BAD_CATALOGUE;
+    other_layout += n == 0;
+    for (size_t i = 0; i < n && !returned; i++)
+        returned = bikuvoa_view_refusal(r[SCHEMA].at, r[SCHEMA].words, views[i].at, views[i].words);
+    return returned;
+}
+
+/* The group of view i, if it has no narrower one among the views still to come; else 0. */
+static uint16_t next_group(const uint16_t *rows, uint16_t to_come, size_t i)
+{
+    uint16_t group = 0;
+    for (size_t j = 0; j < BIKUVOA_MAX_VIEWS; j++) {
+        int narrow = rows[j] >> i & 1, wide = rows[i] >> j & 1;
+        if (narrow && wide) group |= (uint16_t)(1u << j);
+        if (narrow && !wide && (to_come >> j & 1)) return 0;
+    }
+    return group;
+}
+
+/* The order that the rows give: always the lowest view that can come. */
+static void check_order(const uint16_t *rows, size_t n, const uint16_t *order, uint64_t groups)
+{
+    uint16_t to_come = (uint16_t)((1u << n) - 1);
+    for (size_t k = 0; k < BIKUVOA_MAX_VIEWS; k++) {
+        uint16_t group = 0;
+        for (size_t i = 0; i < n && !group; i++)
+            if (to_come >> i & 1) group = next_group(rows, to_come, i);
+        CHECK(order[k] == group && (k < groups) == (group != 0));
+        grouped += (group & (group - 1)) != 0;
+        ahead += group != 0 && (to_come & (~to_come + 1) & group) == 0;
+        to_come &= (uint16_t)~group;
+    }
+    CHECK(to_come == 0);
+}
+
+/* The rows are what holds says of each pair. */
+static uint16_t check_catalogue(const Words *r, size_t rows_room, size_t order_room)
+{
+    Words rows = lent(LENT, rows_room), order = lent(ORDER, order_room), views[BIKUVOA_MAX_VIEWS];
+    uint64_t groups = UNTOUCHED_OUT;
+    uint16_t returned = bikuvoa_catalogue(r[SCHEMA].at, r[SCHEMA].words, r[VIEWS].at, r[VIEWS].words, rows.at, rows.words,
+                                          order.at, order.words, &groups);
+    if (returned) {
+        CHECK(groups == UNTOUCHED_OUT && untouched(rows, 0) && untouched(order, 0));
+        return returned;
+    }
+    size_t n = views_in(r[VIEWS], views);
+    CHECK(n > 0 && untouched(rows, BIKUVOA_MAX_VIEWS) && untouched(order, BIKUVOA_MAX_VIEWS));
+    for (size_t i = 0; i < BIKUVOA_MAX_VIEWS; i++) {
+        CHECK(rows.at[i] >> n == 0 && (i < n || rows.at[i] == 0));
+        for (size_t j = 0; i < n && j < n; j++) {
+            uint64_t held = UNTOUCHED_OUT;
+            CHECK(bikuvoa_holds(r[SCHEMA].at, r[SCHEMA].words, views[i].at, views[i].words, views[j].at, views[j].words, &held)
+                  == 0);
+            CHECK((rows.at[i] >> j & 1) == (int)held);
+        }
+    }
+    check_order(rows.at, n, order.at, groups);
+    return 0;
+}
+
 /* The refusals of each record by itself, taken in the order of the checks, are those of the calls. */
 static uint16_t first(uint16_t one, uint16_t two)
 {
@@ -401,7 +503,8 @@ static uint16_t bad_attribute(size_t attribute, size_t attributes)
     return attribute < attributes ? 0 : BIKUVOA_BAD_ATTRIBUTE;
 }
 
-static void check_all(const Words *r, size_t select_room, uint16_t attribute, size_t decide_room)
+static void check_all(const Words *r, size_t select_room, uint16_t attribute, size_t decide_room, size_t rows_room,
+                      size_t order_room)
 {
     uint8_t in_query[BIKUVOA_MAX_OBJECTS];
     uint64_t broken, found;
@@ -418,6 +521,9 @@ static void check_all(const Words *r, size_t select_room, uint16_t attribute, si
     CHECK(check_counterexample(r, r[STATE], &found) == first(first(query, view), state));
     CHECK(check_links(r, attribute) == first(first(query, state), bad_attribute(attribute, attributes)));
     CHECK(check_decide(r, decide_room) == first(first(query, view), few_words(decide_room, BIKUVOA_DECIDE_WORDS)));
+    CHECK(check_catalogue(r, rows_room, order_room)
+          == first(first(schema, bad_views(r)), first(few_words(rows_room, BIKUVOA_MAX_VIEWS),
+                                                      few_words(order_room, BIKUVOA_MAX_VIEWS))));
 }
 
 static void check_held_by_itself(const Words *r)
@@ -431,22 +537,24 @@ static void check_held_by_itself(const Words *r)
 int LLVMFuzzerTestOneInput(const uint8_t *data, size_t size)
 {
     Input in = {data, size};
-    Words r[STATE + 1];
+    Words r[VIEWS + 1];
     size_t way = byte(&in), rooms = byte(&in), objects;
     uint16_t attribute = some_attribute(&in);
     if (way % 8 < 2) {
-        for (int place = SCHEMA; place <= STATE; place++) r[place] = arbitrary(&in, place);
+        for (int place = SCHEMA; place <= VIEWS; place++) r[place] = arbitrary(&in, place);
     } else {
         Declared d = some_declared(&in);
         r[SCHEMA] = built_schema(&in, d);
         r[QUERY] = built_concept(&in, d, QUERY, BIKUVOA_QUERY_STEPS);
         r[VIEW] = built_concept(&in, d, VIEW, BIKUVOA_VIEW_STEPS);
         r[STATE] = built_state(&in, d);
+        r[VIEWS] = built_views(&in, d, r);
         if (way % 8 < 4) damage(&in, r);
     }
     objects = r[STATE].words > BIKUVOA_AT_OBJECTS ? r[STATE].at[BIKUVOA_AT_OBJECTS] : 0;
     check_all(r, objects > 0 && rooms % 4 == 0 ? objects - 1 : objects + rooms % 4, attribute,
-              BIKUVOA_DECIDE_WORDS - (rooms / 4 % 8 == 0));
+              BIKUVOA_DECIDE_WORDS - (rooms / 4 % 8 == 0), BIKUVOA_MAX_VIEWS + rooms % 3 - (rooms / 32 == 0),
+              BIKUVOA_MAX_VIEWS + rooms % 5 - (rooms / 32 == 1));
     check_held_by_itself(r);
     return 0;
 }
@@ -465,9 +573,10 @@ int main(int argc, char **argv)
         LLVMFuzzerTestOneInput(data, sizeof data);
     }
     printf("%ld inputs: held %lu, open %lu, refused %lu; links %lu, attribute not declared %lu; a class twice %lu, "
-           "too many steps for a view %lu\n", inputs, verdicts[BIKUVOA_HELD], verdicts[BIKUVOA_OPEN],
-           verdicts[BIKUVOA_REFUSED], linked, undeclared, repeated, many_steps);
+           "too many steps for a view %lu; groups of several views %lu, before a lower number %lu, another layout %lu\n",
+           inputs, verdicts[BIKUVOA_HELD], verdicts[BIKUVOA_OPEN], verdicts[BIKUVOA_REFUSED], linked, undeclared, repeated,
+           many_steps, grouped, ahead, other_layout);
     return verdicts[BIKUVOA_HELD] && verdicts[BIKUVOA_OPEN] && verdicts[BIKUVOA_REFUSED] && linked && undeclared && repeated
-           && many_steps ? 0 : 1;
+           && many_steps && grouped && ahead && other_layout ? 0 : 1;
 }
 #endif
