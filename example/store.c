@@ -11,7 +11,8 @@ enum { PERSON, ROWER, STRAP, SESSION, BEAT, CLASSES };
 enum { WEARS, RECORDS, DURING, ATTENDS, ATTRIBUTES };
 static const char *const CLASS_NAMES[] = {"Person", "Rower", "Strap", "Session", "Beat"};
 static const char *const ATTRIBUTE_NAMES[] = {"wears", "records", "during", "attends"};
-enum { AXIOMS = 10, TOKENS = 12, OBJECTS = 8, FACTS = 20, VIEWS = 3 };
+enum { PERSONS, WEARERS, ROWERS, VIEWS };
+enum { AXIOMS = 10, TOKENS = 12, OBJECTS = 8, FACTS = 20 };
 
 typedef struct {
     const char *name;
@@ -31,6 +32,7 @@ static uint16_t schema_words[BIKUVOA_SCHEMA_WORDS(AXIOMS)], state_words[BIKUVOA_
 static bikuvoa_schema schema;
 static bikuvoa_state state;
 static View views[VIEWS];
+static const View *narrow_first[VIEWS];
 
 /* A change is kept only if every axiom holds after it, since HELD speaks of legal states. Then the lists are made anew. */
 static void change(const char *what, bikuvoa_state changed)
@@ -66,7 +68,7 @@ static void answer(const Query *query)
     const View *from = NULL;
     int exact, looks = 0;
     for (int i = 0; i < VIEWS && !from; i++)
-        if (holds(query->is, views[i].is)) from = &views[i];
+        if (holds(query->is, narrow_first[i]->is)) from = narrow_first[i];
     exact = from && holds(from->is, query->is);
     printf("%s:", query->name);
     for (size_t object = 0; object < OBJECTS; object++) {
@@ -109,16 +111,38 @@ static bikuvoa_concept *start_view(View *view, const char *name)
 
 static void make_views(void)
 {
-    bikuvoa_concept *c = start_view(&views[0], "the rowers");
-    bikuvoa_class(c, ROWER);
+    bikuvoa_concept *c = start_view(&views[PERSONS], "the persons");
+    bikuvoa_class(c, PERSON);
 
-    c = start_view(&views[1], "the wearers");
+    c = start_view(&views[WEARERS], "the wearers");
     bikuvoa_empty(c);
     step(c, WEARS, STRAP);
     bikuvoa_reached(c);
 
-    c = start_view(&views[2], "the persons");
-    bikuvoa_class(c, PERSON);
+    c = start_view(&views[ROWERS], "the rowers");
+    bikuvoa_class(c, ROWER);
+}
+
+/* In the order of the catalogue. If it were refused, there would be no groups, and the views would stay as they were made. */
+static void put_narrow_first(void)
+{
+    uint16_t words[BIKUVOA_CATALOGUE_SIZES(VIEWS) + VIEWS * BIKUVOA_CONCEPT_WORDS(TOKENS)];
+    uint16_t rows[BIKUVOA_MAX_VIEWS], order[BIKUVOA_MAX_VIEWS];
+    bikuvoa_views all = bikuvoa_start_views(words, sizeof words / sizeof *words);
+    uint64_t groups = 0;
+    size_t placed = 0;
+    for (size_t i = 0; i < VIEWS; i++) {
+        narrow_first[i] = &views[i];
+        bikuvoa_view(&all, views[i].is.words, views[i].is.length);
+    }
+    bikuvoa_catalogue(schema.words, schema.length, all.words, all.length, rows, BIKUVOA_MAX_VIEWS, order, BIKUVOA_MAX_VIEWS,
+                      &groups);
+    for (size_t k = 0; k < groups; k++)
+        for (size_t i = 0; i < VIEWS; i++)
+            if (order[k] >> i & 1) narrow_first[placed++] = &views[i];
+    printf("narrow views first:");
+    for (size_t i = 0; i < VIEWS; i++) printf("%s %s", i ? "," : "", narrow_first[i]->name);
+    printf("\n");
 }
 
 /* Rower 0 and person 1 wear straps 3 and 4, which have recorded beats 5 and 6 of session 7; 0 and person 2 attend it. Then
@@ -215,6 +239,7 @@ int main(void)
     bikuvoa_concept *c;
     make_schema();
     make_views();
+    put_narrow_first();
     make_changes();
 
     c = start_query(&query, "rowers who attend a session", attends_as_rower);
@@ -244,7 +269,7 @@ int main(void)
     bikuvoa_class(c, STRAP);
     answer(&query);
 
-    count_attendances(&views[2]);
-    for (const View *v = views; v < views + VIEWS; v++) show(v);
+    count_attendances(&views[PERSONS]);
+    for (size_t i = 0; i < VIEWS; i++) show(narrow_first[i]);
     return 0;
 }
