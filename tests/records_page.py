@@ -20,7 +20,9 @@ SOURCE = {name: "".join((ROOT / "crates" / path).read_text() for path in paths.s
     "concept": "records/src/token.rt records/src/sorts.rt records/src/concept.rt",
     "named": "records/src/named.rt", "check": "records/src/check.rt",
     "select": "judge/src/select.rt", "legal": "judge/src/legal.rt", "counterexample": "judge/src/counterexample.rt",
-    "links": "judge/src/links.rt", "decide": "decide/src/lib.rt", "holds": "decide/src/holds.rt"}.items()}
+    "links": "judge/src/links.rt", "decide": "decide/src/lib.rt", "holds": "decide/src/holds.rt",
+    "catalogue": "records/src/catalogue.rt catalogue/src/check.rt"}.items()}
+ENTRIES = "".join(path.read_text() for path in sorted((ROOT / "crates" / "bikuvoa_c" / "src").glob("*.rt")))
 held, faults = [], []
 
 
@@ -98,7 +100,8 @@ def limits(rows):
     for name, least, most in rows:
         constant = names[name]
         hold(f"limit of {name}", number(most), CODE[constant], C[constant])
-        hold(f"least {name}", number(least), in_function("concept", "bad_shape", r"\(n < (\w+)\)") if name == "tokens" else 0)
+        checks = {"tokens": ("concept", "bad_shape"), "views": ("catalogue", "bad_layout")}
+        hold(f"least {name}", number(least), in_function(*checks[name], r"\(n < (\w+)\)") if name in checks else 0)
     return {name: number(most) for name, _, most in rows}
 
 
@@ -185,15 +188,31 @@ def refusals(rows, orders, lent):
         hold(f"refusals of a {record}", [0, *page[record]], [value(n) for n in code])
     hold("functions", [row[0] for row in orders], re.findall(r"^uint16_t bikuvoa_(\w+)\(", HEADER, re.M))
     hold("functions with lent words", [row[0] for row in lent], [entry for entry, text in orders if "lent words" in text])
+    hold("refusals of a catalogue", ["bad_layout", *(f"return {n}" for n in page["catalogue"]), "check_view"],
+         re.findall(r"bad_layout|return \d+|check_view", function("catalogue", "check_catalogue")))
     hold("refusals of an attribute", [*page["attribute"], 0], [value(n) for n in re.findall(r"{ (\d+) }", function("links", "attribute_number"))])
     alone = [*page["schema"], *page["concept"]]
     hold("refusals of a concept by itself", re.findall(r"refusals are (\d+) to (\d+)", PAGE), [(str(alone[0]), str(alone[-1]))])
     looks = {"lent words": ["lent.len", *(f"Refused({n})" for n in page["lent words"])], "attribute": ["attribute_number"],
              **{role: looked_at("concept", f"check_{role}") for role in ("query", "view")}}
     for entry, text in orders:
-        source, _, name = entry.replace("check_concept", "check_query").partition("_")
-        hold(f"checks of {entry}", [look for part in text.split(", ") for look in looks.get(part, [f"check_{part}"])],
+        source, _, name = {"check_concept": "check_query", "catalogue": "catalogue_refusal"}.get(entry, entry).partition("_")
+        # Of a catalogue only the entry for C is lent words.
+        parts = text.removesuffix(", lent words" if entry == "catalogue" else "").split(", ")
+        hold(f"checks of {entry}", [look for part in parts for look in looks.get(part, [f"check_{part}"])],
              looked_at(source, name or entry))
+    hold("refusals by the entries for C", page["lent words"], [int(n) for n in re.findall(r"(?:return |Refused\()(\d+)", ENTRIES)])
+
+
+def lent_words(rows, answer):
+    least = {entry: text for entry, text, _ in rows}
+    hold("lent words of decide", number(least["decide"]), CODE["STATE_WORDS"], C["DECIDE_WORDS"])
+    said = [(name, int(n)) for n, name in re.findall(r"(\d+) for (\w+)", least["catalogue"])]
+    hold("lent words of catalogue", said, [(row[0], C["MAX_VIEWS"]) for row in answer],
+         [(name, value(n)) for name, n in re.findall(r"(\w+)\.len\(\) < (\w+)", ENTRIES)])
+    declared = re.search(r"^uint16_t bikuvoa_catalogue\(.*?\);", HEADER, re.M | re.S).group()
+    hold("lent words of catalogue in the header", [row[0] for row in answer], re.findall(r"(?<!const )uint16_t \*(\w+)", declared))
+    return number(least["decide"])
 
 
 # The example: the words of a table, and what its meanings must be by these words.
@@ -264,7 +283,43 @@ def named(rows, names, naming, sorts):
             ", ".join(names.attributes[p] for p in attributes), as_set(attributes), str(len(classes))])
 
 
-def example(schema, query, view, state, sorts, naming, shown):
+def ordered(rows):
+    """The groups in order, each as a list of views; row i is the set of the views by which view i is held."""
+    to_come, groups = {*range(len(rows))}, []
+    while to_come:
+        narrower = {i: {j for j in to_come if i in rows[j] and j not in rows[i]} for i in to_come}
+        lowest = min(i for i in to_come if not narrower[i])
+        groups.append([i for i in sorted(to_come) if i in rows[lowest] and lowest in rows[i]])
+        to_come -= {*groups[-1]}
+    return groups
+
+
+def catalogue(rows, groups, names, sorts):
+    arguments = {"class": names.classes, "forward": names.attributes, "backward": names.attributes}
+    tokens = {names.token(sorts, sort, n): (sort, n) for sort, name in sorts.items() for n in range(len(arguments.get(name, "0")))}
+    views = [stored(what[len("example/"):-len(".bin")]) if what.endswith(".bin")
+             else words.concept([tokens[token] for token in what.split(", ")]) for _, what, *_ in rows]
+    record = words.catalogue(views)
+    before, total = len(record) - sum(map(len, views)), sum(map(len, views))
+    text = " ".join(PAGE.split())
+    hold("words before the views", before, 1 + len(views), C["CATALOGUE_SIZES"](len(views)))
+    hold("words of the catalogue", re.findall(r"have (\d+) words in all, so their catalogue has (\d+) \+ (\d+) \+ (\d+) = (\d+)", text),
+         [tuple(map(str, (total, 1, len(views), total, len(record))))])
+    hold("what the catalogue begins with", re.findall(r"It begins with ([\d, ]+)\.", text), [", ".join(map(str, record[:before]))])
+    held_by = [[int(n) for n in by.split(", ")] for *_, by, _ in rows]
+    for i, (view, _, length, place, _, row) in enumerate(rows):
+        hold(f"view {i} of the catalogue", (int(view), record[int(place):int(place) + int(length)]), (i, views[i]))
+        hold(f"row {i} of the catalogue", row, as_set(held_by[i]))
+    hold("groups of the catalogue", [tuple(row) for row in groups],
+         [(str(k), ", ".join(map(str, group)), as_set(group)) for k, group in enumerate(ordered(held_by))])
+    if PROGRAM.exists():
+        for i, query in enumerate(views):
+            verdicts = [run({"schema.bin": words.words(CLUB), "query.bin": words.words(query), "view.bin": words.words(view)})
+                        for view in views]
+            hold(f"by which view {i} is held", held_by[i], [j for j, lines in enumerate(verdicts) if lines == ["HELD"]])
+
+
+def example(schema, query, view, state, sorts, naming, shown, views, groups):
     record, meanings = spelled(schema, CODE["BYTE_PART"])
     names = Names(*meanings[:2])
     sizes, entries = split(record, "schema")
@@ -277,6 +332,7 @@ def example(schema, query, view, state, sorts, naming, shown):
         hold(f"words of {name}.bin", record, stored(name))
         hold(f"meaning of {name}.bin", meanings[len(sizes):], [names.token(sorts, *entry) for entry in entries])
     named(shown, names, naming, sorts)
+    catalogue(views, groups, names, sorts)
     record, meanings = spelled(state, CODE["OBJECT_PART"])
     sizes, entries = split(record, "state")
     hold("meaning of the state", meanings[len(sizes):], [names.fact(*entry) for entry in entries])
@@ -295,7 +351,7 @@ def readme(axioms, sizes, entries, most, least):
     text = " ".join(README.split())
     hold("README.md, axioms", re.findall(r"^    (\d+)  (.+)$", README, re.M), [(str(i), axiom) for i, axiom in enumerate(axioms)])
     for name, n in most.items():
-        said = f"{n:,} in a view" if "view" in name else f"{n:,} {name}".replace(" of a ", " in a ")
+        said = f"{n:,} in a view" if name == "steps of a view" else f"{n:,} {name}".replace(" of a ", " in a ")
         hold(f"README.md says {said}", bool(re.search(rf"(?<![\d,]){said}\b", text)), True)
     hold("README.md, stack", re.findall(r"give each thread (\d+) KB", text), [str(C["STACK_BYTES"] >> 10)])
     hold("README.md, lent words", re.findall(r"([\d,]+) words \(([\d,]+) bytes\)", text), [(f"{least:,}", f"{2 * least:,}")])
@@ -325,9 +381,9 @@ def main():
     naming = sets(*page["set, bits"])
     lent, = page["function, least lent words"]
     refusals(*page["number, in the header"], *page["function, looks at, in this order"], lent)
-    least = next(number(text) for entry, text, _ in lent if entry == "decide")
-    hold("lent words of decide", least, CODE["STATE_WORDS"], C["DECIDE_WORDS"])
-    readme(*example(*page["word, value"], sorts, naming, *page["concept, classes"]), most, least)
+    least = lent_words(lent, *page["lent words, word"])
+    shown = [*page["concept, classes"], *page["view, what"], *page["group, views"]]
+    readme(*example(*page["word, value"], sorts, naming, *shown), most, least)
     print("\n".join(faults) if faults else f"records page: {len(held)} facts held to the code")
     return 1 if faults else 0
 

@@ -1,4 +1,4 @@
-"""Records of document 01 as lists of words, and files made from them that are kept in the repository."""
+"""Records of documents 01 and 02 as lists of words, and files made from them that are kept in the repository."""
 import struct
 
 # Token sorts.
@@ -24,6 +24,10 @@ def concept(tokens, steps=None):
     pairs = [t if isinstance(t, tuple) else (t, 0) for t in tokens]
     counted = sum(sort in (FORWARD, BACKWARD) for sort, _ in pairs)
     return [len(pairs), counted if steps is None else steps, *(s for s, _ in pairs), *(a for _, a in pairs)]
+
+
+def catalogue(views):
+    return [len(views), *map(len, views), *(word for view in views for word in view)]
 
 
 def state(objects, facts):
