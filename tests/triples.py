@@ -1,6 +1,7 @@
 #!/usr/bin/env python3
 """Triples of schema, query and view with the verdicts of document 01, for the programs `triples` and `bikuvoa`, and the rowing
-club's example. Expected verdicts are the papers', worked out by hand where the papers say none.
+club's example with its catalogue, for `bikuvoa_order`. Expected verdicts are the papers', worked out by hand where the papers say
+none.
 
   triples.py write   write the program's data and expected output, and the example
   triples.py check   fail if what is written there differs from this table
@@ -8,13 +9,14 @@ club's example. Expected verdicts are the papers', worked out by hand where the 
 import pathlib
 import sys
 
-from words import (BACKWARD, BOTH, CLASS, COMMON, CONSTANT, EMPTY, EVERYTHING, FORWARD, REACHED, axiom, concept, kept, schema,
-                   words)
+from words import (BACKWARD, BOTH, CLASS, COMMON, CONSTANT, EMPTY, EVERYTHING, FORWARD, REACHED, axiom, catalogue, concept, kept,
+                   schema, words)
 
 ROOT = pathlib.Path(__file__).resolve().parent.parent
 CRATE = ROOT / "crates" / "triples"
 PROGRAM = ROOT / "crates" / "bikuvoa"
 PROGRAM_OPEN = ROOT / "crates" / "bikuvoa_open"
+PROGRAM_ORDER = ROOT / "crates" / "bikuvoa_order"
 
 # Classes and attributes of the small triples.
 A, B, C = range(3)
@@ -137,6 +139,12 @@ OPEN_RUN = (schema(2, 1, 0, [needs(A, P)]), concept(is_a(A)), concept(is_a(B)))
 OPEN_LINES = b"OPEN 2 0\n0 0\n1 0\n513 0\n12288 1\n12289 1\n"
 
 
+# Views of the club: persons, those who wear a strap that records something during a session, rowers who attend a session, and
+# those who wear a strap. The second and the fourth hold each other.
+CATALOGUE = catalogue([concept(view) for view in (is_a(ROWER_PERSON), RECORDED, ROWERS, reached((FORWARD, WEARS, is_a(STRAP))))])
+ORDER_LINES = b"2\n1 3\n0\n\n0\n0 1 3\n0 1 2 3\n0 1 3\n"
+
+
 def files(folder, schema_words, query, view):
     """The three files that the program reads."""
     return {folder / f"{name}.bin": words(record) for name, record in (("schema", schema_words), ("query", query), ("view", view))}
@@ -155,7 +163,10 @@ def made():
         CRATE / "data" / "triples.bin": data, CRATE / "stdout": lines.encode(),
         **files(PROGRAM / "data", *first), PROGRAM / "stdout": b"HELD\n",
         **files(PROGRAM_OPEN / "data", *OPEN_RUN), PROGRAM_OPEN / "stdout": OPEN_LINES,
+        PROGRAM_ORDER / "data" / "schema.bin": words(CLUB), PROGRAM_ORDER / "data" / "catalogue.bin": words(CATALOGUE),
+        PROGRAM_ORDER / "stdout": ORDER_LINES,
         **files(ROOT / "example", CLUB, concept(ROWERS), concept(RECORDED)),
+        ROOT / "example" / "catalogue.bin": words(CATALOGUE),
         **files(ROOT / "example" / "reversed", CLUB, concept(RECORDED), concept(ROWERS)),
     }
 
