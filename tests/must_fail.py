@@ -4,7 +4,7 @@ error, the fact that refuses it, and the line of the harmless program, which the
 for the fact and not for its form.
 
   must_fail.py write             write docs/MUST-FAIL.md from the edits' heads
-  must_fail.py check             fail if that page differs, or an edit has no full head
+  must_fail.py check             fail if that page differs, or an edit has no full head or no line to edit
   must_fail.py harmless [NAME..] try the harmless programs of these crates (of all: about as long as the edits themselves)
 """
 import pathlib
@@ -34,6 +34,11 @@ class Edit:
 
     def head_is_full(self):
         return all(self.fields.get(field, "").strip() for field in ("error", "fact", "harmless"))
+
+    def has_a_line(self):
+        """Whether the line to be edited stands in its file, once."""
+        lines = (self.path.parent.parent / self.fields["file"]).read_text().splitlines()
+        return lines.count(self.fields["old"]) == 1
 
     def row(self):
         def code(line):
@@ -81,4 +86,7 @@ if __name__ == "__main__":
     without = [f"{e.crate}/{e.name}" for e in edits() if not e.head_is_full()]
     if without:
         sys.exit(f"must_fail: no full head: {' '.join(without)}")
+    stale = [f"{e.crate}/{e.name}" for e in edits() if not e.has_a_line()]
+    if stale:
+        sys.exit(f"must_fail: the line to edit is not there once: {' '.join(stale)}")
     sys.exit(kept("must_fail", {PAGE: page().encode()}, sys.argv[1:], f"{len(edits())} wrong programs, each beside a harmless one"))
