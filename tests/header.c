@@ -1,24 +1,12 @@
 /* What include/bikuvoa.h has besides the entries: its numbers, texts, verdicts and builders. C89 and C++ alike. The argument
  * is the folder with the rowing club's records, which the builders must write word for word. */
 #include "bikuvoa.h"
-#include <stdio.h>
-#include <stdlib.h>
+#include "check.h"
 #include <string.h>
 
 #define GUARD 0xBEEF
 #define GUARDS 4
 #define LARGEST 200
-
-static int passed;
-
-static void check(int ok, const char *what, int row)
-{
-    if (!ok) {
-        fprintf(stderr, "failed: %s, row %d\n", what, row);
-        exit(1);
-    }
-    passed++;
-}
 
 static void numbers(void)
 {

@@ -1,22 +1,10 @@
-/* What the tests of the entries share: their checks, and records made from tables of tokens. */
+/* What the tests of the entries share: records made from tables of tokens. */
 #ifndef RECORDS_H
 #define RECORDS_H
 
 #include "bikuvoa.h"
-#include <stdio.h>
-#include <stdlib.h>
+#include "check.h"
 #include <string.h>
-
-static int passed;
-
-static void check(int ok, const char *what, int row)
-{
-    if (!ok) {
-        fprintf(stderr, "failed: %s, row %d\n", what, row);
-        exit(1);
-    }
-    passed++;
-}
 
 typedef struct {
     size_t words;
