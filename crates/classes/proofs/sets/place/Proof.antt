@@ -1,36 +1,22 @@
--- The table's rule is one test at each of its entries, which is computed.
-use Prim.Native.Nat.{ℕ}
+-- The shifted 1 is the power of two of the shift, and the shift is the class.
 use Rattle.chase.specs.ClassSet.{place}
-use Rattle.records.proofs.General.FiniteLaws.{all-at}
-use Rattle.records.specs.Finite.{all}
-use Rattle.records.specs.Layout.{maxClasses}
 use borrow.Author.Needs.{needs}
-use borrow.Author.Tests.{eqb-true}
-use lib.Dec.{eqb}
-use lib.ListN.{getD}
-use mathlib.Core.Bool.{Bool}
-use mathlib.Core.List.{List, [], _∷_}
-use mathlib.Core.Path.{refl}
+use lib.Pow.{shl-exact}
+use mathlib.Core.Path.{ap, _∙_}
+use native.Mathlib.Nat.{one-mul}
+use native.Mathlib.Omega.{arith}
 use Rattle.classes.proofs.sets.place.Statement.{statement}
 use Rattle.classes.proofs.sets.place.Tie as tie
 
-places : List ℕ
-places =
-    1 ∷ 2 ∷ 4 ∷ 8 ∷ 16 ∷ 32 ∷ 64 ∷ 128 ∷ 256 ∷ 512 ∷ 1024 ∷ 2048 ∷ 4096 ∷ 8192 ∷ 16384 ∷ 32768 ∷ 65536 ∷ 131072 ∷ 262144
-    ∷ 524288 ∷ 1048576 ∷ 2097152 ∷ 4194304 ∷ 8388608 ∷ []
+cast-result : tie.Need-cast-result
+cast-result c = search needs
 
-right : ℕ → Bool
-right A = eqb (getD places A 0) (place A)
-
-mul-result : tie.Need-mul-result
-mul-result c = search needs
-
-array-read-result : tie.Need-array-read-result
-array-read-result c = search needs
+shl-result : tie.Need-shl-result
+shl-result c = search needs
 
 returns : tie.Need-returns
-unfolding places right place all
-returns c = eqb-true (getD places (c .args .class) 0) (place (c .args .class)) (all-at right maxClasses refl (c .args .class) (search needs))
+unfolding place
+returns c = shl-exact 1 _ 32 (omega arith) (omega arith) ∙ one-mul _ ∙ ap place (omega arith)
 
 pub place-spec : {M : Type 1} → statement M
-place-spec = tie.close (tie.spec mul-result array-read-result returns)
+place-spec = tie.close (tie.spec cast-result shl-result returns)
