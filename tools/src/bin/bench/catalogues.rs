@@ -1,8 +1,8 @@
 //! The catalogues of the inputs, each of as many views as there may be.
 
-use crate::concepts::{known_patients, needs};
-use crate::schemas::{CONSULTS, NAME, SKILLED_IN, SUFFERS, WEARS};
-use crate::schemas::{DISEASE, DOCTOR, MALE, PATIENT, PERSON, STRAP, STRING};
+use crate::concepts::{in_treatment, known_patients, needs};
+use crate::schemas::{DISEASE, MALE, PATIENT, PERSON, STRAP, STRING};
+use crate::schemas::{NAME, SUFFERS, WEARS};
 use bikuvoa::layout::token::{backward, class, constant, forward};
 use bikuvoa::layout::token::{BOTH, EMPTY, EVERYTHING, REACHED};
 use bikuvoa::layout::{catalogue, concept, Pair, MAX_ATTRIBUTES, MAX_VIEWS};
@@ -33,14 +33,7 @@ pub fn middle() -> Vec<u16> {
         &[class(MALE)],
         &[EMPTY, class(STRING), forward(NAME), REACHED],
         &[EMPTY, class(DISEASE), forward(SUFFERS), REACHED],
-        &[
-            EMPTY,
-            class(DOCTOR),
-            forward(CONSULTS),
-            class(DISEASE),
-            forward(SKILLED_IN),
-            REACHED,
-        ],
+        &in_treatment(),
     ];
     of_tokens((0..MAX_VIEWS).map(|choice| {
         let chosen = conditions.iter().enumerate();

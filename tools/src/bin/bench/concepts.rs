@@ -59,18 +59,21 @@ pub fn patients() -> Vec<u16> {
     ])
 }
 
-/// Patients who consult a doctor skilled in a disease.
-pub fn treated() -> Vec<u16> {
-    concept(&[
-        class(PATIENT),
+/// Who consults a doctor skilled in a disease.
+pub fn in_treatment() -> [Pair; 6] {
+    [
         EMPTY,
         class(DOCTOR),
         forward(CONSULTS),
         class(DISEASE),
         forward(SKILLED_IN),
         REACHED,
-        BOTH,
-    ])
+    ]
+}
+
+/// Patients who do.
+pub fn treated() -> Vec<u16> {
+    concept(&[&[class(PATIENT)][..], &in_treatment(), &[BOTH]].concat())
 }
 
 /// The report's view: named patients with a doctor skilled in their disease.
