@@ -22,31 +22,33 @@ use Rattle.records.specs.ConceptRecord.{tokenAt, conceptOf}
 use Rattle.records.specs.StateRecord.{objects, stateOf}
 use Rattle.records.specs.State.{repeats}
 use Rattle.records.specs.Shape.{misshapen, outside}
-use Rattle.records.specs.SchemaRefusal.{oversized, declares, faultyAxiom, refusal-1, refusal-2, schemaAnswer, AcceptedSchema}
+use Rattle.records.specs.SchemaRefusal.{oversized, declares, faultyAxiom, refusal-1, refusal-2, refusal-14, schemaAnswer, schemaNumber, AcceptedSchema}
 use Rattle.records.specs.ConceptRefusal.{suits, faultyToken, steps, refusal-3, refusal-4, refusal-5, refusal-6, conceptAnswer, conceptNumber, AcceptedConcept}
 use Rattle.records.specs.StateRefusal.{faultyFact, ascends, descends, namesAt, misnames, refusal-7, refusal-8, refusal-9, refusal-10, stateAnswer, stateNumber, AcceptedState}
 use Rattle.records.specs.Helpers.Steps.{conceptSteps}
 use Rattle.records.specs.Helpers.Reading.{startOf, HasConcept, stepToken, stepNumber}
 use Rattle.records.specs.Helpers.InRange.{AxiomInRange, TokenInRange}
-use Rattle.records.proofs.General.BoolLaws.{or-false, or-false-left, or-false-right, and-map, and-three-map, none-of-four}
+use Rattle.records.proofs.General.BoolLaws.{or-false, or-false-left, or-false-right, and-map, and-three-map, none-of-three, none-of-four}
 use Rattle.records.proofs.General.FiniteLaws.{any-none}
 use Rattle.records.proofs.ReadingLaws.{number-concept, whole-concept}
 
 -- The answer "accepted" is given only where no test applies.
 
+pub faultless-schema : (w : List ℕ) → schemaNumber (schemaAnswer w) ≡ 0 → (refusal-1 w ≡ false) × (refusal-14 w ≡ false) × (refusal-2 w ≡ false)
+unfolding schemaAnswer
+faultless-schema w =
+    none-of-three (λ a. schemaNumber a ≡ 0) schema.BadShape schema.BadLoose schema.BadAxiom _ (λ e. omega arith) (λ e. omega arith) (λ e. omega arith)
+    (refusal-1 w) (refusal-14 w) (refusal-2 w)
+
 module _ (w : List ℕ) (ok : AcceptedSchema w) where
-  schema-none : (a b : Bool) → cond a schema.BadShape (cond b schema.BadAxiom (schema.Accepted (signatureOf w))) ≡ schema.Accepted (signatureOf w) → (a ≡ false) × (b ≡ false)
-  schema-none true b e = (cc, cc)
-  schema-none false true e = (cc, cc)
-  schema-none false false e = (refl, refl)
+  passes-schema : (refusal-1 w ≡ false) × (refusal-14 w ≡ false) × (refusal-2 w ≡ false)
+  passes-schema = faultless-schema w (ap schemaNumber ok)
 
   pub passes-1 : refusal-1 w ≡ false
-  unfolding schemaAnswer
-  passes-1 = schema-none (refusal-1 w) (refusal-2 w) ok .0
+  passes-1 = passes-schema .0
 
   pub passes-2 : refusal-2 w ≡ false
-  unfolding schemaAnswer
-  passes-2 = schema-none (refusal-1 w) (refusal-2 w) ok .1
+  passes-2 = passes-schema .2
 
 module _ (limit : ℕ) (s : Signature) (w : List ℕ) where
   pub faultless-concept : conceptNumber (conceptAnswer limit s w) ≡ 0
@@ -168,7 +170,7 @@ fact-ascends w e i l = not-false _ (any-none (descends w) (entries stateLayout w
 
 pub constant-once : (s : Signature) (w : List ℕ) → refusal-10 s w ≡ false → (a : ℕ) → a < s .constants → count (entries stateLayout w) (namesAt w a) ≡ 1
 unfolding refusal-10
-constant-once s w e a l = eqb-true (count (entries stateLayout w) (namesAt w a)) 1 (not-false _ (or-false-left _ (repeats (stateOf w .names) a) (any-none (misnames w) (s .constants) e a l)))
+constant-once s w e a l = eqb-true (count (entries stateLayout w) (namesAt w a)) 1 (not-false _ (or-false-left _ (repeats s (stateOf w .names) a) (any-none (misnames s w) (s .constants) e a l)))
 
 -- What an accepted record names is below the limits.
 

@@ -1,4 +1,4 @@
--- An accepted state gives each declared constant its object, and different constants different ones.
+-- An accepted state gives each declared constant its object, and those that are to differ different ones.
 use Prim.Native.Nat.{ℕ, _<_}
 use mathlib.Core.Bool.{not}
 use mathlib.Core.List.{List}
@@ -30,5 +30,5 @@ module _ (s : Signature) (w : List ℕ) (fine : AcceptedState s w) where
         inside = named;
         apart = λ a h.
             or-false-right (not (eqb (count (entries stateLayout w) (namesAt w a)) 1)) _
-            (any-none (misnames w) (s .constants) (passes-10 s w fine) a h);
+            (any-none (misnames s w) (s .constants) (passes-10 s w fine) a h);
       }

@@ -9,6 +9,7 @@ use lib.ListN.{length, getD, length-append, length-map, List·getD-append}
 use lib.Seq.{getD-append-add}
 use borrow.Author.Tests.{eq-eqb, le-ltb}
 use Rattle.records.specs.declared.layout.Layout.{Layout}
+use Rattle.records.specs.declared.schema.Signature.{Signature}
 use Rattle.records.specs.declared.schema.Axiom.{Axiom}
 use Rattle.records.specs.declared.schema.Axiom.the-variants.{Subclass, Typing, Necessary, Single, Relates}
 use Rattle.records.specs.Finite.{count}
@@ -78,15 +79,15 @@ module _ {E : Type 0} (left right : E → ℕ) {L : Layout} (sizes : List ℕ) (
       )
 
 -- The schema.
-module _ (classes attributes constants : ℕ) (l : List Words) where
+module _ (s : Signature) (l : List Words) where
   abbrev schemaWords : List ℕ
-  schemaWords = schemaRecord classes attributes constants l
+  schemaWords = schemaRecord s l
 
-  schema-sizes : Sizes schemaLayout (schemaSizes classes attributes constants (length l)) (length l)
+  schema-sizes : Sizes schemaLayout (schemaSizes s (length l)) (length l)
   unfolding schemaLayout
   schema-sizes = record { many = refl; inside = omega arith; counts = refl }
 
-  pub schema-signature : signatureOf schemaWords ≡ record { classes = classes; attributes = attributes; constants = constants }
+  pub schema-signature : signatureOf schemaWords ≡ s
   unfolding signatureOf sizeAt schemaRecord recordOf
   schema-signature = refl
 

@@ -20,7 +20,7 @@ use Rattle.records.specs.SchemaRecord.{signatureOf, axiomKind, axiomOf, 
 use Rattle.records.specs.ConceptRecord.{tokenOf, tokenAt, pileAfter, conceptOf}
 use Rattle.records.specs.StateRecord.{objects, kindAt, objectAt, says, saysPair, stateOf}
 use Rattle.records.specs.Shape.{misshapen}
-use Rattle.records.specs.SchemaRefusal.{refusal-1, faultyAxiom, refusal-2, schemaAnswer, schemaNumber}
+use Rattle.records.specs.SchemaRefusal.{refusal-1, refusal-14, faultyAxiom, refusal-2, schemaAnswer, schemaNumber}
 use Rattle.records.specs.ConceptRefusal.{refusal-3, faultyToken, refusal-4, refusal-5, steps, refusal-6, conceptAnswer, conceptNumber}
 use Rattle.records.specs.StateRefusal.{refusal-7, faultyFact, refusal-8, ascends, refusal-9, refusal-10, stateAnswer, stateNumber}
 use Rattle.records.specs.Encoding.{recordOf, schemaRecord, conceptRecord, stepsIn, fact, stateRecord}
@@ -70,21 +70,25 @@ True (judged schema state verdict) = Accepted schema state × Deserves (schemaOf
 
 -- The table.
 
+-- so many classes, attributes and constants, and which constants are loose
+abbrev pub declaring : ℕ → ℕ → ℕ → ℕ → Signature
+declaring classes attributes constants loose = record { classes = classes; attributes = attributes; constants = constants; loose = loose }
+
 -- Classes 0 Strap, 1 Person; attribute 0 wears; one constant. An axiom by its left and right word.
 -- Axiom 0: Person has at most one wears. Axiom 1: wears relates Person to Strap.
 abbrev pub schemaX : List ℕ
-schemaX = schemaRecord 2 1 1 ((4 * 256 + 1, 0) ∷ (5 * 256 + 0, 1 * 256 + 0) ∷ [])
+schemaX = schemaRecord (declaring 2 1 1 0) ((4 * 256 + 1, 0) ∷ (5 * 256 + 0, 1 * 256 + 0) ∷ [])
 
 -- Axiom 2: Strap needs wears.
 abbrev pub schemaX₂ : List ℕ
-schemaX₂ = schemaRecord 2 1 1 ((4 * 256 + 1, 0) ∷ (5 * 256 + 0, 1 * 256 + 0) ∷ (3 * 256 + 0, 0) ∷ [])
+schemaX₂ = schemaRecord (declaring 2 1 1 0) ((4 * 256 + 1, 0) ∷ (5 * 256 + 0, 1 * 256 + 0) ∷ (3 * 256 + 0, 0) ∷ [])
 
 -- Three objects: Strap 2; Person 0 and 1; wears (0, 2) and (1, 2); the constant names 0.
 abbrev pub stateS : List ℕ
 stateS = stateRecord 3 (fact 0 2 0 ∷ fact 1 0 0 ∷ fact 1 1 0 ∷ fact 24 0 2 ∷ fact 24 1 2 ∷ fact 32 0 0 ∷ [])
 
 abbrev pub emptySchema : List ℕ
-emptySchema = schemaRecord 0 0 0 []
+emptySchema = schemaRecord (declaring 0 0 0 0) []
 
 abbrev pub emptyState : List ℕ
 emptyState = stateRecord 0 []
@@ -150,9 +154,9 @@ exactly-true I C objects e d =
     let same : d < I .size → In I C d ↔ So (listed objects d) = λ l. Iff·trans (Iff·symm (isIn-iff I C d)) (same-iff _ _ (t .0 d l)) in
     (λ s. same (s .0) .0 (s .1), λ h. (t .1 d h, same (t .1 d h) .1 h))
 
--- the constants name objects, different ones
+-- the constants name objects, those that are to differ different ones
 named : Signature → State → Bool
-named s I = all (s .constants) (λ a. ltb (I .names a) (I .size)) && all (s .constants) λ a. not (repeats (I .names) a)
+named s I = all (s .constants) (λ a. ltb (I .names a) (I .size)) && all (s .constants) λ a. not (repeats s (I .names) a)
 
 named-true : (s : Signature) (I : State) → So (named s I) → Names s I
 unfolding named
@@ -210,7 +214,7 @@ unfolding
     schemaLayout conceptLayout stateLayout sizeAt entries leftAt rightAt lengthFor
     signatureOf axiomKind axiomOf schemaOf tokenOf tokenAt pileAfter conceptOf objects kindAt objectAt says saysPair stateOf
     recordOf schemaRecord conceptRecord stepsIn stateRecord
-    misshapen refusal-1 faultyAxiom refusal-2 schemaAnswer
+    misshapen refusal-1 refusal-14 faultyAxiom refusal-2 schemaAnswer
     refusal-3 faultyToken refusal-4 refusal-5 steps refusal-6 conceptAnswer
     refusal-7 faultyFact refusal-8 ascends refusal-9 refusal-10 stateAnswer
 table-passes = refl

@@ -4,6 +4,7 @@ pub mod ExecutableLaws
 pub mod NamesLaws
 pub mod SubsumptionLaws
 pub mod EncodingLaws
+pub mod LooseLaws
 pub mod RefusalLaws
 pub mod OutcomeLaws
 pub mod AcceptedLaws
@@ -23,3 +24,4 @@ pub mod WriteLaws
 pub mod Examples
 -- What some concepts name.
 pub mod NamedExamples
+pub mod LooseExamples

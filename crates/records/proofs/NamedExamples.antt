@@ -9,18 +9,19 @@ use Rattle.records.specs.Finite.{any, count, sum, setOf}
 use Rattle.records.specs.Layout.{schemaLayout, conceptLayout, sizeAt, entries, leftAt, rightAt, lengthFor}
 use Rattle.records.specs.SchemaRecord.{signatureOf, axiomKind, axiomOf, schemaOf}
 use Rattle.records.specs.ConceptRecord.{tokenOf, tokenAt, pileAfter}
-use Rattle.records.specs.Encoding.{Words, recordOf, conceptRecord, stepsIn}
+use Rattle.records.specs.Encoding.{Words, recordOf, schemaRecord, conceptRecord, stepsIn}
 use Rattle.records.specs.Named.{classNamed, attributeNamed, namedIn}
 use Rattle.records.specs.Shape.{misshapen}
-use Rattle.records.specs.SchemaRefusal.{refusal-1, faultyAxiom, refusal-2, schemaAnswer}
+use Rattle.records.specs.SchemaRefusal.{refusal-1, refusal-14, faultyAxiom, refusal-2, schemaAnswer}
 use Rattle.records.specs.ConceptRefusal.{refusal-3, faultyToken, refusal-4, refusal-5, steps, refusal-6, conceptAnswer}
 use Rattle.records.specs.Outcome.{firstRefusal, outcome}
 use Rattle.records.specs.Check.{queryCheck, viewCheck}
+use Rattle.records.proofs.Examples.{declaring}
 
 -- both checks of a concept, by its tokens
 abbrev checks : List Words → CheckAnswer × CheckAnswer
 checks tokens =
-    let schema : List ℕ = 24 ∷ 8 ∷ 4 ∷ 1 ∷ 256 ∷ 1 ∷ [] in
+    let schema = schemaRecord (declaring 24 8 4 0) ((256, 1) ∷ []) in
     (queryCheck schema (conceptRecord tokens), viewCheck schema (conceptRecord tokens))
 
 abbrev says : ℕ → ℕ → ℕ → CheckAnswer × CheckAnswer
@@ -35,7 +36,7 @@ pub named-by-hand : (checks ((1, 5) ∷ (1, 5) ∷ (4, 0) ∷ []) ≡ says 32 0 
 unfolding
     outcome firstRefusal namedIn classNamed attributeNamed setOf sum any count
     schemaLayout conceptLayout sizeAt entries leftAt rightAt lengthFor
-    signatureOf axiomKind axiomOf schemaOf tokenOf tokenAt pileAfter recordOf conceptRecord stepsIn
-    misshapen refusal-1 faultyAxiom refusal-2 schemaAnswer
+    signatureOf axiomKind axiomOf schemaOf tokenOf tokenAt pileAfter recordOf schemaRecord conceptRecord stepsIn
+    misshapen refusal-1 refusal-14 faultyAxiom refusal-2 schemaAnswer
     refusal-3 faultyToken refusal-4 refusal-5 steps refusal-6 conceptAnswer
 named-by-hand = (refl, refl, refl, refl)

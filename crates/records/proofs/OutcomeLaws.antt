@@ -23,13 +23,13 @@ use Rattle.records.specs.declared.named.Named.{Named}
 use Rattle.records.specs.declared.state.StateAnswer.{StateAnswer}
 use Rattle.records.specs.declared.state.StateAnswer.the-variants as of-state
 use Rattle.records.specs.Layout.{querySteps, viewSteps}
-use Rattle.records.specs.SchemaRefusal.{schemaNumber, refusal-1, refusal-2, schemaAnswer, AcceptedSchema}
+use Rattle.records.specs.SchemaRefusal.{schemaNumber, schemaAnswer, AcceptedSchema}
 use Rattle.records.specs.Named.{namedIn}
 use Rattle.records.specs.ConceptRefusal.{conceptNumber, conceptAnswer, AcceptedConcept}
 use Rattle.records.specs.StateRefusal.{stateNumber, stateAnswer, AcceptedState}
 use Rattle.records.specs.Outcome.{refusal-11, refusal-12, schemaRefusal, queryRefusal, viewRefusal, stateRefusal, lentRefusal, attributeRefusal, firstRefusal, outcome}
 use Rattle.records.specs.SchemaRecord.{signatureOf}
-use Rattle.records.proofs.AcceptedLaws.{faultless-concept, faultless-state}
+use Rattle.records.proofs.AcceptedLaws.{faultless-schema, faultless-concept, faultless-state}
 
 -- Numbers in checking order.
 
@@ -126,12 +126,16 @@ module _ {A : Type 0} (refused : ℕ → A) (answer : A) where
 
 -- The number of each check.
 
+none-of-three : OneOf (1 ∷ 2 ∷ 3 ∷ []) 0 → ⊥
+none-of-three t = ⊎-elim (λ e. omega arith) (⊎-elim (λ e. omega arith) (λ e. omega arith)) t
+
 none-of-four : OneOf (1 ∷ 2 ∷ 3 ∷ 4 ∷ []) 0 → ⊥
 none-of-four t = ⊎-elim (λ e. omega arith) (⊎-elim (λ e. omega arith) (⊎-elim (λ e. omega arith) (λ e. omega arith))) t
 
-schema-not-accepted : (a : SchemaAnswer) → OneOf (1 ∷ 2 ∷ []) (tagOf Schema.the-type a) → eqb (schemaNumber a) 0 ≡ false
-schema-not-accepted (of-schema.Accepted s) t = absurd (⊎-elim (λ e. omega arith) (λ e. omega arith) t)
+schema-not-accepted : (a : SchemaAnswer) → OneOf (1 ∷ 2 ∷ 3 ∷ []) (tagOf Schema.the-type a) → eqb (schemaNumber a) 0 ≡ false
+schema-not-accepted (of-schema.Accepted s) t = absurd (none-of-three t)
 schema-not-accepted of-schema.BadShape t = refl
+schema-not-accepted of-schema.BadLoose t = refl
 schema-not-accepted of-schema.BadAxiom t = refl
 
 concept-not-accepted : (a : ConceptAnswer) → OneOf (1 ∷ 2 ∷ 3 ∷ 4 ∷ []) (tagOf Concept.the-type a) → eqb (conceptNumber a) 0 ≡ false
@@ -155,7 +159,7 @@ concept-refused limit s w {a = a} e q t = (e ∙ ap conceptNumber q, rw q at (co
 
 -- .. by an entry, which has the signature from the schema's check
 module _ (schema : List ℕ) where
-  pub schema-turned : {n : ℕ} {a : SchemaAnswer} → n ≡ schemaNumber a → a ≡ schemaAnswer schema → OneOf (1 ∷ 2 ∷ []) (tagOf Schema.the-type a)
+  pub schema-turned : {n : ℕ} {a : SchemaAnswer} → n ≡ schemaNumber a → a ≡ schemaAnswer schema → OneOf (1 ∷ 2 ∷ 3 ∷ []) (tagOf Schema.the-type a)
       → Turned n (schemaRefusal schema)
   schema-turned {a = a} e q t = (e ∙ ap schemaNumber q, rw q at (schema-not-accepted a t))
 
@@ -175,29 +179,16 @@ lent-turned needed lent h = rw (lt-ltb (length lent) needed h) (refl, refl)
 -- A number of 0 is that of an accepted record.
 
 module _ (schema : List ℕ) where
-  -- what an accepted schema's answer holds
-  pub schema-signature : (s : Signature) → schemaAnswer schema ≡ of-schema.Accepted s → (s ≡ signatureOf schema) × AcceptedSchema schema
-  unfolding schemaAnswer
-  schema-signature s e = pick (refusal-1 schema) (refusal-2 schema) e
-    where
-      pick : (a b : Bool) → cond a of-schema.BadShape (cond b of-schema.BadAxiom (of-schema.Accepted (signatureOf schema))) ≡ of-schema.Accepted s
-          → (s ≡ signatureOf schema) × (cond a of-schema.BadShape (cond b of-schema.BadAxiom (of-schema.Accepted (signatureOf schema))) ≡ of-schema.Accepted (signatureOf schema))
-      pick true b h = (cc, cc)
-      pick false true h = (cc, cc)
-      pick false false h = (cc, refl)
-
   pub schema-passed : AcceptedSchema schema → schemaRefusal schema ≡ 0
   schema-passed ok = ap schemaNumber ok
 
   pub passed-schema : schemaRefusal schema ≡ 0 → AcceptedSchema schema
   unfolding schemaAnswer
-  passed-schema e = pick (refusal-1 schema) (refusal-2 schema) e
-    where
-      pick : (a b : Bool) → schemaNumber (cond a of-schema.BadShape (cond b of-schema.BadAxiom (of-schema.Accepted (signatureOf schema)))) ≡ 0
-          → cond a of-schema.BadShape (cond b of-schema.BadAxiom (of-schema.Accepted (signatureOf schema))) ≡ of-schema.Accepted (signatureOf schema)
-      pick true b h = absurd (omega arith)
-      pick false true h = absurd (omega arith)
-      pick false false h = refl
+  passed-schema e = let z = faultless-schema schema e in rw (z .0, z .1, z .2)
+
+  -- what an accepted schema's answer holds
+  pub schema-signature : (s : Signature) → schemaAnswer schema ≡ of-schema.Accepted s → (s ≡ signatureOf schema) × AcceptedSchema schema
+  schema-signature s e = let ok = passed-schema (ap schemaNumber e) in (cc, ok)
 
   pub query-passed : (query : List ℕ) → AcceptedConcept querySteps (signatureOf schema) query → queryRefusal schema query ≡ 0
   query-passed query ok = ap conceptNumber ok

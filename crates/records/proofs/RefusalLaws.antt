@@ -8,7 +8,8 @@ use Rattle.records.specs.declared.schema.SchemaAnswer.the-variants as sc
 use Rattle.records.specs.declared.concept.ConceptAnswer.the-variants as concept
 use Rattle.records.specs.declared.state.StateAnswer.the-variants as state
 use Rattle.records.specs.SchemaRecord.{signatureOf}
-use Rattle.records.specs.SchemaRefusal.{refusal-1, refusal-2, schemaAnswer}
+use Rattle.records.specs.SchemaRefusal.{refusal-1, refusal-14, refusal-2, schemaAnswer}
+use Rattle.records.specs.Helpers.Scan.{contentAnswer}
 use Rattle.records.specs.ConceptRefusal.{refusal-3, refusal-4, conceptAnswer}
 use Rattle.records.specs.StateRefusal.{refusal-7, refusal-8, refusal-9, refusal-10, stateAnswer}
 
@@ -17,13 +18,9 @@ module _ (w : List ℕ) where
   unfolding schemaAnswer
   answer-1 h = rw h
 
-  pub answer-2 : refusal-1 w ≡ false → So (refusal-2 w) → schema.BadAxiom ≡ schemaAnswer w
+  pub answer-past-1 : refusal-1 w ≡ false → contentAnswer (signatureOf w) (refusal-14 w) (refusal-2 w) ≡ schemaAnswer w
   unfolding schemaAnswer
-  answer-2 e h = rw (e, h)
-
-  pub schema-accepted : refusal-1 w ≡ false → refusal-2 w ≡ false → schema.Accepted (signatureOf w) ≡ schemaAnswer w
-  unfolding schemaAnswer
-  schema-accepted e f = rw (e, f)
+  answer-past-1 e = rw e
 
 module _ (limit : ℕ) (s : Signature) (w : List ℕ) where
   pub answer-3 : So (refusal-3 w) → concept.BadShape ≡ conceptAnswer limit s w

@@ -19,7 +19,7 @@ use Rattle.records.specs.Layout.{stateLayout, entries, constantKinds, fa
 use Rattle.records.specs.StateRecord.{kindAt, objectAt, objects, says, stateOf}
 use Rattle.records.specs.StateRefusal.{ascends, descends, faultyFact, declaresKind, namesAt, misnames, refusal-8, refusal-9, refusal-10}
 use Rattle.records.specs.Helpers.Scan.{followsAt, slotOf, namedIn, misnamedAt, misnamed}
-use Rattle.records.specs.State.{sameAs, repeats}
+use Rattle.records.specs.State.{clashing, repeats}
 use Rattle.records.proofs.General.BoolLaws.{or-false-left, or-false-right, or-left, or-true-cases, and-left, and-right, and-both, not-both, false-of}
 use Rattle.records.proofs.General.FiniteLaws.{any-zero, any-still, any-of, any-none, none-any, any-same, all-more, count-more, count-one, count-found, none-count, least-is}
 
@@ -202,7 +202,7 @@ module _ (s : Signature) (w : List ℕ) where
         let (j, l, p, q) = last-found w a (entries stateLayout w) (count-found (namesAt w a) (entries stateLayout w) (rw one (omega arith))) in
         z .last a m ∙ q ∙ sym (name-is w a one j l p (fact-object s w j (any-none (faultyFact s w) (entries stateLayout w) (z .faultless) j l)))
 
-    misnames-is : (a : ℕ) → a < 4 → ((b : ℕ) → b < a → misnamedAt counts named b ≡ false) → misnamedAt counts named a ≡ misnames w a
+    misnames-is : (a : ℕ) → a < 4 → ((b : ℕ) → b < a → misnamedAt s counts named b ≡ false) → misnamedAt s counts named a ≡ misnames s w a
     unfolding repeats
     misnames-is a m earlier = rw (z .counted a m) (pick (ℕ-discrete (count (entries stateLayout w) (namesAt w a)) 1))
       where
@@ -211,25 +211,25 @@ module _ (s : Signature) (w : List ℕ) where
             sym (z .counted b (omega arith)) ∙ eqb-true (getD counts b 0) 1 (not-false _ (or-false-left (not (eqb (getD counts b 0) 1)) _ (earlier b l)))
 
         pick : Dec (count (entries stateLayout w) (namesAt w a) ≡ 1)
-            → (not (eqb (count (entries stateLayout w) (namesAt w a)) 1) || any a (sameAs (namedIn named) a)) ≡ (not (eqb (count (entries stateLayout w) (namesAt w a)) 1) || any a (sameAs (stateOf w .names) a))
+            → (not (eqb (count (entries stateLayout w) (namesAt w a)) 1) || any a (clashing s (namedIn named) a)) ≡ (not (eqb (count (entries stateLayout w) (namesAt w a)) 1) || any a (clashing s (stateOf w .names) a))
         pick (no n) = rw (ne-eqb (count (entries stateLayout w) (namesAt w a)) 1 n)
         pick (yes one) =
             rw (eq-eqb (count (entries stateLayout w) (namesAt w a)) 1 one)
-            (any-same (sameAs (namedIn named) a) (sameAs (stateOf w .names) a) a (λ b l h. rw (named-is b (omega arith) (once b l), named-is a m one)))
+            (any-same (clashing s (namedIn named) a) (clashing s (stateOf w .names) a) a (λ b l h. rw (named-is b (omega arith) (once b l), named-is a m one)))
 
-    pub kept-10 : misnamed counts named (s .constants) ≡ refusal-10 s w
+    pub kept-10 : misnamed s counts named ≡ refusal-10 s w
     unfolding misnamed refusal-10
     kept-10 = pick (decLt 4 (s .constants))
       where
-        pick : Dec (4 < s .constants) → (ltb 4 (s .constants) || any (s .constants) (misnamedAt counts named)) ≡ any (s .constants) (misnames w)
+        pick : Dec (4 < s .constants) → (ltb 4 (s .constants) || any (s .constants) (misnamedAt s counts named)) ≡ any (s .constants) (misnames s w)
         pick (yes l) =
             rw (lt-ltb 4 (s .constants) l)
-            (sym (any-of (misnames w) (s .constants) 4 l
-            (or-left (not (eqb (count (entries stateLayout w) (namesAt w 4)) 1)) (repeats (stateOf w .names) 4)
+            (sym (any-of (misnames s w) (s .constants) 4 l
+            (or-left (not (eqb (count (entries stateLayout w) (namesAt w 4)) 1)) (repeats s (stateOf w .names) 4)
             (rw (none-count (namesAt w 4) (entries stateLayout w) unnamed)))))
           where
             unnamed : (i : ℕ) → i < entries stateLayout w → namesAt w 4 i ≡ false
             unnamed i h = ne-eqb (kindAt w i) 36 (λ e. omega (arith, fact-kind s w i (any-none (faultyFact s w) (entries stateLayout w) (z .faultless) i h)))
         pick (no n) =
             rw (le-ltb 4 (s .constants) (omega arith))
-            (any-same (misnamedAt counts named) (misnames w) (s .constants) (λ a l h. misnames-is a (omega arith) h))
+            (any-same (misnamedAt s counts named) (misnames s w) (s .constants) (λ a l h. misnames-is a (omega arith) h))

@@ -3,6 +3,7 @@
 use Prim.Native.Nat.{ℕ, _+_, _*_, _/_, _%_}
 use mathlib.Core.List.{List, [], _∷_, _++_, map}
 use lib.ListN.{length, getD}
+use Rattle.records.specs.declared.schema.Signature.{Signature}
 use Rattle.records.specs.declared.schema.Axiom.{Axiom}
 use Rattle.records.specs.declared.schema.Axiom.the-variants.{Subclass, Typing, Necessary, Single, Relates}
 use Rattle.records.specs.Finite.{count}
@@ -25,12 +26,11 @@ abbrev pub rightOf : Words → ℕ
 rightOf e = e .1
 
 -- the size words, for so many axioms
-abbrev pub schemaSizes : ℕ → ℕ → ℕ → ℕ → List ℕ
-schemaSizes classes attributes constants axioms = classes ∷ attributes ∷ constants ∷ axioms ∷ []
+abbrev pub schemaSizes : Signature → ℕ → List ℕ
+schemaSizes s axioms = s .classes ∷ s .attributes ∷ s .constants ∷ axioms ∷ s .loose ∷ []
 
-unfoldable pub schemaRecord : ℕ → ℕ → ℕ → List Words → List ℕ
-schemaRecord classes attributes constants axioms =
-    recordOf leftOf rightOf (schemaSizes classes attributes constants (length axioms)) axioms
+unfoldable pub schemaRecord : Signature → List Words → List ℕ
+schemaRecord s axioms = recordOf leftOf rightOf (schemaSizes s (length axioms)) axioms
 
 -- the words that `axiomOf` of SchemaRecord reads
 abbrev pub axiomWords : Axiom → Words

@@ -8,9 +8,9 @@ use Rattle.records.specs.declared.layout.Layout.{Layout}
 -- Sizes come first. A layout says how many size words there are, and which of them, from 0, counts the entries of the
 -- two arrays (the struct of src/layout.rt).
 
--- classes, attributes, constants, axioms
+-- classes, attributes, constants, axioms, loose constants (document 02, note 5)
 unfoldable pub schemaLayout : Layout
-schemaLayout = record { sizes = 4; counter = 3 }
+schemaLayout = record { sizes = 5; counter = 3 }
 
 -- tokens, steps
 unfoldable pub conceptLayout : Layout
@@ -37,6 +37,10 @@ rightAt L w i = getD w (L .sizes + entries L w + i) 0
 -- the length of a record with n entries
 unfoldable pub lengthFor : Layout → ℕ → ℕ
 lengthFor L n = L .sizes + 2 * n
+
+-- the binary digits of a word
+abbrev pub wordDigits : ℕ
+wordDigits = 16
 
 -- Limits.
 abbrev pub maxClasses : ℕ

@@ -5,7 +5,7 @@ use mathlib.Core.List.{List, []}
 use mathlib.Core.Option.{none}
 use mathlib.Core.Bool.{Bool, cond, not, _&&_, _||_}
 use mathlib.Core.Path.{_≡_}
-use lib.Dec.{ltb}
+use lib.Dec.{ltb, leb}
 use lib.ListN.{length}
 use Rattle.records.specs.declared.schema.Axiom.{Axiom}
 use Rattle.records.specs.declared.schema.Axiom.the-variants.{Subclass, Typing, Necessary, Single, Relates}
@@ -13,9 +13,10 @@ use Rattle.records.specs.declared.schema.Signature.{Signature}
 use Rattle.records.specs.declared.schema.SchemaAnswer.{SchemaAnswer}
 use Rattle.records.specs.declared.schema.SchemaAnswer.the-variants as schema
 use Rattle.records.specs.Finite.{any}
-use Rattle.records.specs.Layout.{schemaLayout, entries, leftAt, maxClasses, maxAttributes, maxConstants, maxAxioms}
+use Rattle.records.specs.Layout.{schemaLayout, entries, leftAt, wordDigits, maxClasses, maxAttributes, maxConstants, maxAxioms}
 use Rattle.records.specs.SchemaRecord.{signatureOf, axiomKind, schemaOf}
 use Rattle.records.specs.Shape.{misshapen, outside}
+use Rattle.records.specs.State.{isLoose}
 
 abbrev pub oversized : Signature → ℕ → Bool
 oversized s n =
@@ -24,6 +25,14 @@ oversized s n =
 -- 1. The schema has fewer words than its sizes, a size above its limit, or a length other than its entries make.
 unfoldable pub refusal-1 : List ℕ → Bool
 refusal-1 w = oversized (signatureOf w) (entries schemaLayout w) || misshapen schemaLayout w
+
+-- constant k is marked loose and not declared
+abbrev pub undeclaredLoose : Signature → ℕ → Bool
+undeclaredLoose s k = isLoose s k && leb (s .constants) k
+
+-- 14. A bit marks a constant that is not declared. (Document 02, note 5; checked directly after 1.)
+unfoldable pub refusal-14 : List ℕ → Bool
+refusal-14 w = any wordDigits (undeclaredLoose (signatureOf w))
 
 -- the axiom names declared classes and attributes alone
 abbrev pub declares : Signature → Axiom → Bool
@@ -41,11 +50,16 @@ unfoldable pub refusal-2 : List ℕ → Bool
 refusal-2 w = any (entries schemaLayout w) (faultyAxiom (signatureOf w) w)
 
 unfoldable pub schemaAnswer : List ℕ → SchemaAnswer
-schemaAnswer w = cond (refusal-1 w) schema.BadShape (cond (refusal-2 w) schema.BadAxiom (schema.Accepted (signatureOf w)))
+schemaAnswer w =
+    cond (refusal-1 w) schema.BadShape
+    (cond (refusal-14 w) schema.BadLoose
+    (cond (refusal-2 w) schema.BadAxiom
+    (schema.Accepted (signatureOf w))))
 
 abbrev pub schemaNumber : SchemaAnswer → ℕ
 schemaNumber (schema.Accepted s) = 0
 schemaNumber schema.BadShape = 1
+schemaNumber schema.BadLoose = 14
 schemaNumber schema.BadAxiom = 2
 
 -- A record is accepted if it gets none of its refusals.

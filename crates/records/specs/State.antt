@@ -1,10 +1,10 @@
 -- Document 01, "Meaning": states. No limit of the records applies to them.
 use Prim.Native.Nat.{ℕ, _<_}
-use mathlib.Core.Bool.{Bool, So, false}
+use mathlib.Core.Bool.{Bool, So, false, not, _&&_, _||_}
 use mathlib.Core.Path.{_≡_}
 use lib.Dec.{eqb}
 use Rattle.records.specs.declared.schema.Signature.{Signature}
-use Rattle.records.specs.Finite.{any}
+use Rattle.records.specs.Finite.{any, bit}
 
 -- A finite set of objects, the numbers below `size` (it may be empty); a set of objects for each class;
 -- a set of ordered pairs for each attribute; and an object for each constant.
@@ -30,15 +30,23 @@ Every I X = (d : ℕ) → d < I .size → X d
 abbrev pub Some : State → (ℕ → Type 0) → Type 0
 Some I X = (d : ℕ) × (d < I .size) × X d
 
--- constants a and b have the same, where f is what each has
-abbrev pub sameAs : (ℕ → ℕ) → ℕ → ℕ → Bool
-sameAs f a b = eqb (f b) (f a)
+-- Document 02, note 5: a loose constant may name the same object as any other.
+abbrev pub isLoose : Signature → ℕ → Bool
+isLoose s a = bit (s .loose) a
 
--- constant a has the same as an earlier one
-unfoldable pub repeats : (ℕ → ℕ) → ℕ → Bool
-repeats f a = any a (sameAs f a)
+-- Different constants a and b name different objects unless one of the two is loose.
+abbrev pub differ : Signature → ℕ → ℕ → Bool
+differ s a b = not (isLoose s a || isLoose s b)
 
--- Each declared constant names an object, and different constants name different objects.
+-- constants a and b are to differ and have the same, where f is what each has
+abbrev pub clashing : Signature → (ℕ → ℕ) → ℕ → ℕ → Bool
+clashing s f a b = differ s a b && eqb (f b) (f a)
+
+-- constant a repeats what an earlier one has from which it is to differ: it clashes with that one
+unfoldable pub repeats : Signature → (ℕ → ℕ) → ℕ → Bool
+repeats s f a = any a (clashing s f a)
+
+-- Each declared constant names an object, and those that are to differ name different objects.
 pub record Names (s : Signature) (I : State) : Type 0 where
   pub inside : (a : ℕ) → a < s .constants → I .names a < I .size
-  pub apart : (a : ℕ) → a < s .constants → repeats (I .names) a ≡ false
+  pub apart : (a : ℕ) → a < s .constants → repeats s (I .names) a ≡ false

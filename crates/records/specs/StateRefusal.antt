@@ -59,14 +59,14 @@ refusal-9 w = any (entries stateLayout w - 1) (descends w)
 abbrev pub namesAt : List ℕ → ℕ → ℕ → Bool
 namesAt w a i = eqb (kindAt w i) (constantKinds + a)
 
--- constant a has no object or several, or the object of an earlier constant
+-- constant a has no object or several, or clashes with an earlier one
 -- (facts that ascend strictly are different, so it has as many objects as facts)
-abbrev pub misnames : List ℕ → ℕ → Bool
-misnames w a = not (eqb (count (entries stateLayout w) (namesAt w a)) 1) || repeats (stateOf w .names) a
+abbrev pub misnames : Signature → List ℕ → ℕ → Bool
+misnames s w a = not (eqb (count (entries stateLayout w) (namesAt w a)) 1) || repeats s (stateOf w .names) a
 
--- 10. A declared constant has no object or several, or two constants have the same object.
+-- 10. A declared constant has no object or several, or two constants, neither of them loose, have the same object.
 unfoldable pub refusal-10 : Signature → List ℕ → Bool
-refusal-10 s w = any (s .constants) (misnames w)
+refusal-10 s w = any (s .constants) (misnames s w)
 
 unfoldable pub stateAnswer : Signature → List ℕ → StateAnswer
 stateAnswer s w =

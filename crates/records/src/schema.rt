@@ -6,11 +6,13 @@ use crate::layout::misshapen;
 use crate::layout::right;
 use crate::layout::word;
 ghost use mathlib.Core.Path.{_≡_};
-ghost use Prim.Native.Nat.{_<_, _^_};
+ghost use Prim.Native.Nat.{_<_, _≤_, _^_};
 ghost use Rattle.records.specs.Helpers.Word.{IsWord, IsLayout};
-ghost use Rattle.records.specs.Layout.{entries as entriesOf, schemaLayout};
+ghost use Rattle.records.specs.Helpers.Scan.{contentAnswer};
+ghost use Rattle.records.specs.Layout.{entries as entriesOf, schemaLayout, wordDigits, maxConstants};
 ghost use Rattle.records.specs.SchemaRecord.{signatureOf, axiomOf, schemaOf};
-ghost use Rattle.records.specs.SchemaRefusal.{oversized as oversizedIn, declares as declaresIn, faultyAxiom, refusal-1, schemaAnswer, schemaNumber};
+ghost use Rattle.records.specs.SchemaRefusal.{oversized as oversizedIn, declares as declaresIn, faultyAxiom, refusal-1, refusal-14, refusal-2, schemaAnswer, schemaNumber};
+ghost use Rattle.records.specs.State.{isLoose, differ as differIn};
 
 pub const MAX_CLASSES: usize = 24;
 
@@ -19,8 +21,8 @@ pub const MAX_ATTRIBUTES: usize = 8;
 pub const MAX_CONSTANTS: usize = 4;
 
 pub const MAX_AXIOMS: usize = 96;
-// Classes, attributes, constants, axioms.
-pub const SCHEMA_SIZES: usize = 4;
+// Classes, attributes, constants, axioms, loose constants.
+pub const SCHEMA_SIZES: usize = 5;
 // A word of two parts is the first times this plus the second.
 const BYTE_PART: usize = 256;
 
@@ -29,6 +31,8 @@ pub struct Signature {
     pub classes: usize,
     pub attributes: usize,
     pub constants: usize,
+    // The set of the loose constants: bit k, from the lowest, is constant k.
+    pub loose: usize,
 }
 
 // The five kinds of axiom, in the paper's order.
@@ -48,6 +52,7 @@ pub enum Axiom {
 pub enum SchemaAnswer {
     Accepted(Signature),
     BadShape,
+    BadLoose,
     BadAxiom,
 }
 
@@ -59,6 +64,7 @@ impl SchemaAnswer {
         match self {
             SchemaAnswer::Accepted(_) => 0,
             SchemaAnswer::BadShape => 1,
+            SchemaAnswer::BadLoose => 14,
             SchemaAnswer::BadAxiom => 2,
         }
     }
@@ -86,7 +92,23 @@ pub fn signature_of(words: &[u16]) -> Signature
         classes: word(words, 0),
         attributes: word(words, 1),
         constants: word(words, 2),
+        loose: word(words, 4),
     }
+}
+
+fn is_loose(s: Signature, a: usize) -> bool
+    requires { ⌜ a < wordDigits ⌝ }
+    ensures { λ r. ⌜ r ≡ isLoose s a ⌝ }
+{
+    (s.loose >> a) % 2 == 1
+}
+
+// Constants `a` and `b` are to name different objects.
+pub fn differ(s: Signature, a: usize, b: usize) -> bool
+    requires { ⌜ (a < wordDigits) × (b < wordDigits) ⌝ }
+    ensures { λ r. ⌜ r ≡ differIn s a b ⌝ }
+{
+    !(is_loose(s, a) | is_loose(s, b))
 }
 
 pub fn axiom_of(left: usize, right: usize) -> Axiom
@@ -151,18 +173,47 @@ fn bad_shape(words: &[u16]) -> bool
     oversized(signature_of(words), n) | misshapen(schema_layout(), words)
 }
 
+// Refusal 14: above the digits of the declared constants the word is not 0.
+fn bad_loose(words: &[u16]) -> bool
+    requires { ⌜ signatureOf (now words) .constants ≤ maxConstants ⌝ }
+    ensures { λ r. ⌜ r ≡ refusal-14 (now (words .entry)) ⌝ }
+{
+    let s = signature_of(words);
+    (s.loose >> s.constants) != 0
+}
+
+// Refusal 2.
+fn bad_axiom(words: &[u16]) -> bool
+    ensures { λ r. ⌜ r ≡ refusal-2 (now (words .entry)) ⌝ }
+{
+    let s = signature_of(words);
+    let n = axioms(words);
+    for i in 0..n {
+        if faulty_axiom(s, words, i) {
+            return true;
+        }
+    }
+    false
+}
+
+// Refusal 14, then 2, or what the schema declares.
+fn answer(s: Signature, undeclared: bool, faulty: bool) -> SchemaAnswer
+    ensures { λ r. ⌜ r ≡ contentAnswer s undeclared faulty ⌝ }
+{
+    if undeclared {
+        return SchemaAnswer::BadLoose;
+    }
+    if faulty {
+        return SchemaAnswer::BadAxiom;
+    }
+    SchemaAnswer::Accepted(s)
+}
+
 pub fn check_schema(words: &[u16]) -> SchemaAnswer
     ensures { λ r. ⌜ r ≡ schemaAnswer (now (words .entry)) ⌝ }
 {
     if bad_shape(words) {
         return SchemaAnswer::BadShape;
     }
-    let s = signature_of(words);
-    let n = axioms(words);
-    for i in 0..n {
-        if faulty_axiom(s, words, i) {
-            return SchemaAnswer::BadAxiom;
-        }
-    }
-    SchemaAnswer::Accepted(s)
+    answer(signature_of(words), bad_loose(words), bad_axiom(words))
 }

@@ -6,6 +6,7 @@ use crate::layout::misshapen;
 use crate::layout::right;
 use crate::layout::word;
 use crate::schema::Signature;
+use crate::schema::differ;
 ghost use mathlib.Core.Path.{_≡_};
 ghost use Prim.Native.Nat.{_<_, _^_};
 ghost use lib.ListN.{length};
@@ -159,13 +160,13 @@ fn slot(kind: usize) -> usize
     }
 }
 
-// An earlier constant has the same object.
-fn repeats(named: &[usize; SLOTS], a: usize) -> bool
+// Constant `a` clashes with an earlier one.
+fn repeats(s: Signature, named: &[usize; SLOTS], a: usize) -> bool
     requires { ⌜ (a < 5) × (length (now named) ≡ 5) ⌝ }
-    ensures { λ r. ⌜ r ≡ repeatsIn (namedIn (now (named .entry))) a ⌝ }
+    ensures { λ r. ⌜ r ≡ repeatsIn s (namedIn (now (named .entry))) a ⌝ }
 {
     for b in 0..a {
-        if named[b] == named[a] {
+        if differ(s, a, b) & (named[b] == named[a]) {
             return true;
         }
     }
@@ -173,15 +174,15 @@ fn repeats(named: &[usize; SLOTS], a: usize) -> bool
 }
 
 // Refusal 10, from how many facts name each constant and the object of the last of them.
-fn misnamed(counts: &[usize; SLOTS], named: &[usize; SLOTS], constants: usize) -> bool
+fn misnamed(s: Signature, counts: &[usize; SLOTS], named: &[usize; SLOTS]) -> bool
     requires { ⌜ (length (now counts) ≡ 5) × (length (now named) ≡ 5) ⌝ }
-    ensures { λ r. ⌜ r ≡ misnamedIn (now (counts .entry)) (now (named .entry)) constants ⌝ }
+    ensures { λ r. ⌜ r ≡ misnamedIn s (now (counts .entry)) (now (named .entry)) ⌝ }
 {
-    if FACT_KINDS - CONSTANT_KINDS < constants {
+    if FACT_KINDS - CONSTANT_KINDS < s.constants {
         return true;
     }
-    for a in 0..constants {
-        if (counts[a] != 1) | repeats(named, a) {
+    for a in 0..s.constants {
+        if (counts[a] != 1) | repeats(s, named, a) {
             return true;
         }
     }
@@ -219,7 +220,7 @@ pub fn check_state(s: Signature, words: &[u16]) -> StateAnswer
     if !ascending {
         return StateAnswer::BadOrder;
     }
-    if misnamed(&counts, &named, s.constants) {
+    if misnamed(s, &counts, &named) {
         return StateAnswer::BadConstants;
     }
     StateAnswer::Accepted

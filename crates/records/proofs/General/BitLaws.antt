@@ -1,6 +1,7 @@
--- The bits of one number: of a union, of an intersection, of 0 and of a number with one bit; and of a number that is not 0.
+-- The bits of one number: of a union, of an intersection, of 0, of a number with one bit and of a number that was shifted; and
+-- of a number that is not 0.
 -- A shift passes through a union or an intersection, so that only the lowest digits are left to compare.
-use Prim.Native.Nat.{ℕ, zero, suc, _+_, _-_, _/_, _%_, _^_, _<_, min, max}
+use Prim.Native.Nat.{ℕ, zero, suc, _+_, _-_, _/_, _%_, _^_, _≤_, _<_, min, max}
 use mathlib.Core.Bool.{Bool, true, false, So, _&&_, _||_}
 use mathlib.Core.Logic.{_≢_}
 use mathlib.Core.Path.{_≡_, refl, sym, ap, _∙_}
@@ -61,8 +62,17 @@ word-one b k = pick (decLt k b) (decLt b k)
     pick (no m) (yes l) = other (λ q. omega arith) (rw (div-eq-of-lt (pow-lt l)))
     pick (no m) (no l) = let e : k ≡ b = omega arith in rw (eq-eqb k b e, e, div-self (pow-pos b))
 
+-- the bits of a number that was shifted, and those past the last
+pub bit-shifted : (x c k : ℕ) → bit (x / 2 ^ c) k ≡ bit x (c + k)
+bit-shifted x c k = ap (λ (n : ℕ). eqb (n % 2) 1) (shr-shr x c k)
+
+pub bit-past : (x c k : ℕ) → x / 2 ^ c ≡ 0 → c ≤ k → bit x k ≡ false
+bit-past x c k e h =
+    let q : k ≡ c + (k - c) = omega arith in
+    ap (λ (n : ℕ). bit x n) q ∙ sym (bit-shifted x c (k - c)) ∙ ap (λ (n : ℕ). bit n (k - c)) e ∙ word-zero (k - c)
+
 -- a number that is not 0 has a bit
-some-bit : (x : ℕ) → x ≢ 0 → (A : ℕ) × So (bit x A)
+pub some-bit : (x : ℕ) → x ≢ 0 → (A : ℕ) × So (bit x A)
 some-bit = bin-ind (λ x. x ≢ 0 → (A : ℕ) × So (bit x A)) (λ h. absurd (h refl)) step
   where
     step : (n : ℕ) → (n / 2 ≢ 0 → (A : ℕ) × So (bit (n / 2) A)) → n ≢ 0 → (A : ℕ) × So (bit n A)

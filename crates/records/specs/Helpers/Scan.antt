@@ -1,5 +1,5 @@
--- What the checks keep while they scan a record, as plain functions: the pile's sorts, the steps and names, and the constants'
--- objects.
+-- What the checks keep while they scan a record, as plain functions: a schema's tests, the pile's sorts, the steps and names, and the
+-- constants' objects.
 -- Contracts of helper functions cite them. ConceptScanLaws and StateScanLaws of proofs/ tie them to the refusals.
 use Prim.Native.Nat.{ℕ, zero, suc, _+_, _-_, _*_, _/_, _%_}
 use mathlib.Core.List.{List}
@@ -9,6 +9,9 @@ use lib.Bits.{bitOr}
 use lib.Count.{ones}
 use lib.ListN.{getD}
 use mir.Val.{boolByte}
+use Rattle.records.specs.declared.schema.Signature.{Signature}
+use Rattle.records.specs.declared.schema.SchemaAnswer.{SchemaAnswer}
+use Rattle.records.specs.declared.schema.SchemaAnswer.the-variants as schema
 use Rattle.records.specs.declared.token.Token.{Token}
 use Rattle.records.specs.declared.token.Token.the-variants.{Class, Everything, Constant, Both, Empty, Forward, Backward, Reached, Common}
 use Rattle.records.specs.declared.sorts.Sorts.{Sorts}
@@ -22,6 +25,10 @@ use Rattle.records.specs.Layout.{maxClasses, maxAttributes, constantKind
 use Rattle.records.specs.Named.{hasClass, hasAttribute}
 use Rattle.records.specs.ConceptRefusal.{isStep}
 use Rattle.records.specs.StateRefusal.{ascends}
+
+-- refusal 14, then 2, or what the schema declares, by the two tests
+abbrev pub contentAnswer : Signature → Bool → Bool → SchemaAnswer
+contentAnswer s undeclared faulty = cond undeclared schema.BadLoose (cond faulty schema.BadAxiom (schema.Accepted s))
 
 abbrev pub putSort : Sorts → ℕ → Sorts
 putSort σ b = record { ok = true; bits = 2 * σ .bits + b; height = σ .height + 1 }
@@ -87,10 +94,10 @@ slotOf k = cond (leb constantKinds k && ltb k factKinds) (k - constantKinds) max
 abbrev pub namedIn : List ℕ → ℕ → ℕ
 namedIn named a = getD named a 0
 
--- constant a has no fact or several, or its object is an earlier one's
-abbrev pub misnamedAt : List ℕ → List ℕ → ℕ → Bool
-misnamedAt counts named a = not (eqb (getD counts a 0) 1) || repeats (namedIn named) a
+-- constant a has no fact or several, or clashes with an earlier one
+abbrev pub misnamedAt : Signature → List ℕ → List ℕ → ℕ → Bool
+misnamedAt s counts named a = not (eqb (getD counts a 0) 1) || repeats s (namedIn named) a
 
 -- and a constant that no fact can name has none
-unfoldable pub misnamed : List ℕ → List ℕ → ℕ → Bool
-misnamed counts named constants = ltb maxConstants constants || any constants (misnamedAt counts named)
+unfoldable pub misnamed : Signature → List ℕ → List ℕ → Bool
+misnamed s counts named = ltb maxConstants (s .constants) || any (s .constants) (misnamedAt s counts named)

@@ -8,17 +8,17 @@ use borrow.Author.Needs.{needs}
 use borrow.Author.Tests.{le-ltb, lt-ltb}
 use lib.Dec.{ltb}
 use mathlib.Core.Bool.{false}
-use mathlib.Core.Path.{_≡_, sym}
+use mathlib.Core.Path.{_≡_, refl, sym, _∙_}
 use native.Mathlib.Omega.{arith}
 use native.Mathlib.Nat.{le-antisymm}
 use Rattle.records.proofs.state.misnamed.Statement.{statement}
 use Rattle.records.proofs.state.misnamed.Tie as tie
 
 abbrev Inv-loop : tie.InvT-loop
-Inv-loop counts named constants a₀ a = (a ≤ constants) × (any a (misnamedAt counts named) ≡ false)
+Inv-loop s counts named a₀ end a = (a ≤ end) × (end ≡ s .constants) × (any a (misnamedAt s counts named) ≡ false)
 
 abbrev μ-loop : tie.MeasureT-loop
-μ-loop counts named constants a₀ a = constants - a
+μ-loop s counts named a₀ end a = end - a
 
 sub-if1 : tie.Need-sub-if1 Inv-loop μ-loop
 sub-if1 c = search needs
@@ -28,7 +28,7 @@ unfolding misnamed
 returns c = rw (lt-ltb 4 _ (c .if1 .taken))
 
 loop-holds : tie.Need-loop-holds Inv-loop μ-loop
-loop-holds c = (omega arith, any-zero _)
+loop-holds c = (omega arith, refl, any-zero _)
 
 mul-if2 : tie.Need-mul-if2 Inv-loop μ-loop
 mul-if2 c = search needs
@@ -42,8 +42,9 @@ repeats-requires c κs = search needs
 returns-2 : tie.Need-returns-2 Inv-loop μ-loop
 unfolding misnamed
 returns-2 c =
-    sym (or-right (ltb 4 (c .before .before .before .before .before .before .args .constants)) _
-    (any-of (misnamedAt (c .before .before .before .before .before .before .args .counts .now) (c .before .before .before .before .before .before .args .named .now)) _ _ (c .before .before .before .loop-test .taken)
+    let at = c .before .before .before .before .before .before .before .args in
+    sym (or-right (ltb 4 (at .s .constants)) _
+    (any-of (misnamedAt (at .s) (at .counts .now) (at .named .now)) _ _ (rw (c .before .before .before .before .loop .inv .1) at (c .before .before .before .loop-test .taken))
     (rw (← (c .before .repeats .ensures)) (c .if2 .taken))))
 
 add-a : tie.Need-add-a Inv-loop μ-loop
@@ -53,13 +54,18 @@ loop-less : tie.Need-loop-less Inv-loop μ-loop
 loop-less c = omega arith
 
 loop-again : tie.Need-loop-again Inv-loop μ-loop
-loop-again c = (omega arith, any-still _ _ (c .before .before .before .before .loop .inv .1) (rw (← (c .before .repeats .ensures)) (c .if2 .left)))
+loop-again c = (
+  omega arith,
+  c .before .before .before .before .loop .inv .1,
+  any-still _ _ (c .before .before .before .before .loop .inv .2) (rw (← (c .before .repeats .ensures)) (c .if2 .left)),
+)
 
 returns-3 : tie.Need-returns-3 Inv-loop μ-loop
 unfolding misnamed
 returns-3 c =
-    rw (le-ltb 4 (c .before .before .before .args .constants) (c .before .before .if1 .left))
-    (sym (rw (le-antisymm (c .before .loop .inv .0) (c .loop-test .left)) at (c .before .loop .inv .1)))
+    let at = c .before .before .before .before .args in
+    rw (le-ltb 4 (at .s .constants) (c .before .before .if1 .left))
+    (sym (rw (le-antisymm (c .before .loop .inv .0) (c .loop-test .left) ∙ c .before .loop .inv .1) at (c .before .loop .inv .2)))
 
 pub misnamed-spec : {M : Type 1} → statement M
 misnamed-spec =

@@ -1,11 +1,10 @@
--- Until an earlier constant has the same object, none before it has.
+-- Until an earlier constant clashes, none before it does.
 use Prim.Native.Nat.{_-_, _≤_}
 use Rattle.records.proofs.General.FiniteLaws.{any-of, any-still, any-zero}
 use Rattle.records.specs.Finite.{any}
 use Rattle.records.specs.Helpers.Scan.{namedIn}
-use Rattle.records.specs.State.{sameAs, repeats}
+use Rattle.records.specs.State.{clashing, repeats}
 use borrow.Author.Needs.{needs}
-use borrow.Author.Tests.{eq-eqb, ne-eqb}
 use mathlib.Core.Bool.{false}
 use mathlib.Core.Path.{_≡_, sym}
 use native.Mathlib.Omega.{arith}
@@ -14,13 +13,16 @@ use Rattle.records.proofs.state.repeats.Statement.{statement}
 use Rattle.records.proofs.state.repeats.Tie as tie
 
 abbrev Inv-loop : tie.InvT-loop
-Inv-loop named a b₀ b = (b ≤ a) × (any b (sameAs (namedIn named) a) ≡ false)
+Inv-loop s named a b₀ b = (b ≤ a) × (any b (clashing s (namedIn named) a) ≡ false)
 
 abbrev μ-loop : tie.MeasureT-loop
-μ-loop named a b₀ b = a - b
+μ-loop s named a b₀ b = a - b
 
 loop-holds : tie.Need-loop-holds Inv-loop μ-loop
 loop-holds c = (omega arith, any-zero _)
+
+differ-requires : tie.Need-differ-requires Inv-loop μ-loop
+differ-requires c κs = search needs
 
 mul-if1 : tie.Need-mul-if1 Inv-loop μ-loop
 mul-if1 c = search needs
@@ -37,7 +39,9 @@ element-copy-out-if1-2 c = search needs
 returns : tie.Need-returns Inv-loop μ-loop
 unfolding repeats
 returns c =
-    sym (any-of (sameAs (namedIn (c .before .before .before .before .before .args .named .now)) (c .before .before .before .before .before .args .a)) _ _ (c .before .before .before .loop-test .taken) (eq-eqb _ _ (c .if1 .taken)))
+    let at = c .before .before .before .before .before .before .args in
+    sym (any-of (clashing (at .s) (namedIn (at .named .now)) (at .a)) _ _ (c .before .before .before .before .loop-test .taken)
+    (rw (← (c .before .before .before .differ .ensures)) (c .if1 .taken)))
 
 add-b : tie.Need-add-b Inv-loop μ-loop
 add-b c = search needs
@@ -47,7 +51,11 @@ loop-less c = omega arith
 
 loop-again : tie.Need-loop-again Inv-loop μ-loop
 loop-again c =
-    (omega arith, any-still (sameAs (namedIn (c .before .before .before .before .before .args .named .now)) (c .before .before .before .before .before .args .a)) _ (c .before .before .before .before .loop .inv .1) (ne-eqb _ _ (c .if1 .left)))
+    let at = c .before .before .before .before .before .before .args in (
+      omega arith,
+      any-still (clashing (at .s) (namedIn (at .named .now)) (at .a)) _ (c .before .before .before .before .before .loop .inv .1)
+          (rw (← (c .before .before .before .differ .ensures)) (c .if1 .left)),
+    )
 
 returns-2 : tie.Need-returns-2 Inv-loop μ-loop
 unfolding repeats
@@ -60,6 +68,7 @@ repeats-spec =
     Inv-loop
     μ-loop
     loop-holds
+    differ-requires
     mul-if1
     element-copy-out-if1
     mul-if1-2
