@@ -2,6 +2,7 @@
 pub mod General
 pub mod ExecutableLaws
 pub mod NamesLaws
+pub mod TwoConstants
 pub mod SubsumptionLaws
 pub mod EncodingLaws
 pub mod LooseLaws

@@ -1,10 +1,14 @@
--- Document 01, demand 3 and "What can be put to it": counterexample, and its own terms held and open
+-- Document 01, demand 3 and "What can be put to it": satisfiable, counterexample, and its own terms held and open
 -- (the report's subsumption of a query by a view, and its failure). A view is a query whose list is stored.
 use Prim.Native.Nat.{ℕ}
-use Rattle.records.specs.State.{State, Every}
+use Rattle.records.specs.State.{State, Every, Some}
 use Rattle.records.specs.Schema.{Schema, Legal}
 use Rattle.records.specs.Concept.{Concept}
 use Rattle.records.specs.Semantics.{In, Selects}
+
+-- some legal state, of any finite size, has an object in the concept
+abbrev pub Satisfiable : Schema → Concept → Type 0
+Satisfiable S C = (I : State) × Legal S I × Some I λ d. In I C d
 
 -- an object that the query selects and the view does not, in a legal state
 pub record Counterexample (S : Schema) (query view : Concept) (I : State) (d : ℕ) : Type 0 where
