@@ -85,7 +85,7 @@ legal-alike S I J same declared legal =
             inside = λ a h. to (S .signature) I J same (J .names a)
                 (subst (λ (d : ℕ). d < I .size) (same .names a h) (legal .names .inside a h));
             apart = λ a h.
-                repeats-none (J .names) (I .names) a (λ b l q. same .names b (omega arith) ∙ q ∙ sym (same .names a h)) (legal .names .apart a h);
+                repeats-none (S .signature) (J .names) (I .names) a (λ b l q. same .names b (omega arith) ∙ q ∙ sym (same .names a h)) (legal .names .apart a h);
           };
       holds = λ i h. holds-alike (S .signature) I J same (S .axiomAt i) (declared i h) (legal .holds i h);
     }

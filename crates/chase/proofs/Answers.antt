@@ -80,7 +80,7 @@ module _ (t : Task) (formed : WellFormed t) (G : Ground) (node : ℕ → ℕ) (T
         unnamed = λ a q. let n = names-is a k l q in omega (arith, n .1, ok .constants a (n .0));
       }
 
-  module _ (apart : (a : ℕ) → a < S .signature .constants → repeats (G .constants) a ≡ false)
+  module _ (apart : (a : ℕ) → a < S .signature .constants → repeats (S .signature) (G .constants) a ≡ false)
       (embeds : In (candidateOf S G T) (t .query) (G .start)) (cov : (p : ℕ) → p < G .objects → Cov S G T (t .view) p []) where
     done : Done t F (lacks S G T) (G .objects) (size G T) (G .start) node
     done =
@@ -89,7 +89,7 @@ module _ (t : Task) (formed : WellFormed t) (G : Ground) (node : ℕ → ℕ) (T
               record {
                 inside = λ a h. omega (arith, names-of a h, ok .constants a h, ground-size G T, room S G T);
                 apart = λ a h.
-                    repeats-none (F .names) (G .constants) a (λ b l q. sym (names-of b (omega arith)) ∙ q ∙ names-of a h) (apart a h);
+                    repeats-none (S .signature) (F .names) (G .constants) a (λ b l q. sym (names-of b (omega arith)) ∙ q ∙ names-of a h) (apart a h);
               };
           closes = closing-room t formed G node T ok valid;
           chased = candidate-chased t formed G node T ok valid;
@@ -173,12 +173,12 @@ abbrev repAt : Task → ℕ → ℕ
 repAt t a = repOf (primary t) (constantNode t a)
 
 module _ (t : Task) (formed : WellFormed t) where
-  constants-apart : clash t ≡ false → (a : ℕ) → a < t .schema .signature .constants → repeats (ground t .constants) a ≡ false
+  constants-apart : clash t ≡ false → (a : ℕ) → a < t .schema .signature .constants → repeats (t .schema .signature) (ground t .constants) a ≡ false
   unfolding clash ground groundOf
   constants-apart n a h =
-      repeats-none (ground t .constants) (repAt t) a
+      repeats-none (t .schema .signature) (ground t .constants) (repAt t) a
       (λ b l q. object-rep t (primary t) (primary-ok t formed) (constantNode t b) (constantNode t a) (omega arith) (omega arith) q)
-      (any-none (repeats (repAt t)) (t .schema .signature .constants) n a h)
+      (any-none (repeats (t .schema .signature) (repAt t)) (t .schema .signature .constants) n a h)
 
   pub ground-is : Grounded t (ground t) (nodeOf t (primary t))
   unfolding ground
@@ -199,19 +199,19 @@ module _ (t : Task) (formed : WellFormed t) where
   finished n =
       done t formed (ground t) (nodeOf t (primary t)) (forest t) ground-is (forest-is .0) (constants-apart n) query-embeds (forest-is .1)
 
-  -- no legal state has an object in a query that makes two constants one
+  -- no legal state has an object in a query that makes two constants one that are to differ
   pub clash-held : So (clash t) → Held (t .schema) (t .query) (t .view)
   unfolding clash
   clash-held c = λ I legal d h q.
       let w = fitting t formed I legal d h q in
       let g = w .0 in
-      let k = any-found (repeats (repAt t)) (t .schema .signature .constants) c in
+      let k = any-found (repeats (t .schema .signature) (repAt t)) (t .schema .signature .constants) c in
       let same : (n : ℕ) → n < nodes t → g n ≡ g (repOf (primary t) n) = primary-ok t formed .same I g (w .1) in
       let named : (b : ℕ) → b < t .schema .signature .constants → I .names b ≡ g (repAt t b) =
       λ b l. sym (w .1 .assigns .constants b l) ∙ same (constantNode t b) (omega arith) in
       absurd
       (not-both _ (k .2)
-      (repeats-none (repAt t) (I .names) (k .0) (λ b l e. named b (omega (arith, k .1)) ∙ ap g e ∙ sym (named (k .0) (k .1)))
+      (repeats-none (t .schema .signature) (repAt t) (I .names) (k .0) (λ b l e. named b (omega (arith, k .1)) ∙ ap g e ∙ sym (named (k .0) (k .1)))
       (legal .names .apart (k .0) (k .1))))
 
   pub says-held : In (candidate t) (t .view) (first t) → Held (t .schema) (t .query) (t .view)

@@ -4,6 +4,7 @@ use native.Mathlib.Omega.{arith}
 use mathlib.Core.Bool.{Bool, true, false, _&&_, _||_, Bool·beq, false≢true}
 use mathlib.Core.List.{List, [], _∷_, map}
 use mathlib.Core.Path.{_≡_, refl}
+use Rattle.records.specs.declared.schema.Signature.{Signature}
 use Rattle.records.specs.declared.schema.Axiom.{Axiom}
 use Rattle.records.specs.declared.schema.Axiom.the-variants.{Subclass, Typing, Necessary, Single, Relates}
 use Rattle.records.specs.Finite.{any, count}
@@ -13,6 +14,7 @@ use Rattle.records.specs.Layout.{schemaLayout, sizeAt, entries, leftAt, rightAt
 use Rattle.records.specs.SchemaRecord.{signatureOf, axiomKind, axiomOf, schemaOf}
 use Rattle.records.specs.Encoding.{recordOf, schemaRecord, axiomWords}
 use Rattle.records.specs.Executable.{isIn}
+use Rattle.records.proofs.Examples.{declaring}
 use Rattle.chase.specs.Loops.{each, anyOf, upto, settle}
 use Rattle.chase.specs.ClassSet.{place, meets, has, full}
 use Rattle.chase.specs.Axioms.{collect, needs, isSingle, raise, closure, image}
@@ -30,8 +32,8 @@ use Rattle.chase.proofs.Answers.{says-held, says-open}
 verdict : Task → Bool
 verdict t = clash t || isIn (candidate t) (t .view) (first t)
 
-schemaFrom : ℕ → ℕ → ℕ → List Axiom → Schema
-schemaFrom classes attributes constants axioms = schemaOf (schemaRecord classes attributes constants (map axiomWords axioms))
+schemaFrom : Signature → List Axiom → Schema
+schemaFrom s axioms = schemaOf (schemaRecord s (map axiomWords axioms))
 
 -- to unfold this is to read such a schema
 read : Unit {0}
@@ -58,7 +60,7 @@ some P C = reached (to empty P C)
 -- 0 takes, 1 consults, 2 suffers, 3 name, 4 skilled_in
 medical : Schema
 medical =
-    schemaFrom 9 5 0
+    schemaFrom (declaring 9 5 0 0)
     (Subclass 1 0 ∷ Typing 1 0 5 ∷ Typing 1 1 2 ∷ Typing 1 2 6 ∷ Necessary 1 2 ∷ Typing 0 3 8 ∷ Necessary 0 3 ∷ Single 0 3 ∷ Typing 2 4 6
     ∷ Relates 4 0 7 ∷ []
     )
@@ -69,9 +71,13 @@ queryPatient = both (both (class 3) (class 1)) (common (to empty 1 (class 4)) (b
 viewPatient : Concept
 viewPatient = both (both (class 1) (some 3 (class 8))) (common (to (to empty 1 (class 2)) 4 (class 6)) (to empty 2 (class 6)))
 
+-- three constants, of which constant 1 is loose
+looseSecond : Schema
+looseSecond = schemaFrom (declaring 1 0 3 2) []
+
 -- classes 0 A, 1 B, 2 C; attribute 0 P
 letters : List Axiom → Schema
-letters = schemaFrom 3 1 0
+letters = schemaFrom (declaring 3 1 0 0)
 
 sixSteps : Concept → Concept
 sixSteps C = reached (to (to (to (to (to (to empty 0 everything) 0 everything) 0 everything) 0 everything) 0 everything) 0 C)
@@ -85,8 +91,13 @@ rows =
     ∷ record { schema = letters (Necessary 0 0 ∷ Typing 0 0 0 ∷ []); query = class 0; view = sixSteps everything; held = true }
     ∷ record { schema = letters (Necessary 0 0 ∷ Typing 0 0 0 ∷ []); query = class 0; view = sixSteps (class 1); held = false }
     -- two constants at once
-    ∷ record { schema = schemaFrom 1 0 2 []; query = both (constant 0) (constant 1); view = class 0; held = true }
-    ∷ record { schema = schemaFrom 1 0 2 []; query = constant 0; view = constant 1; held = false }
+    ∷ record { schema = schemaFrom (declaring 1 0 2 0) []; query = both (constant 0) (constant 1); view = class 0; held = true }
+    ∷ record { schema = schemaFrom (declaring 1 0 2 0) []; query = constant 0; view = constant 1; held = false }
+    -- .. of which the second is loose, and a third that is not
+    ∷ record { schema = looseSecond; query = constant 0; view = constant 1; held = false }
+    ∷ record { schema = looseSecond; query = both (constant 0) (constant 1); view = class 0; held = false }
+    ∷ record { schema = looseSecond; query = both (constant 1) (constant 2); view = class 0; held = false }
+    ∷ record { schema = looseSecond; query = both (both (constant 0) (constant 1)) (constant 2); view = class 0; held = true }
     -- at most one value
     ∷ record {
       schema = letters (Single 0 0 ∷ []);
@@ -131,7 +142,7 @@ unfolding verdict clash repeats primary settled begin settle upto each repOf set
 model = tt
 
 rows-agree : agrees rows ≡ true
-unfolding model read agrees rows sixSteps letters viewPatient queryPatient medical some back to
+unfolding model read agrees rows sixSteps letters looseSecond viewPatient queryPatient medical some back to
 rows-agree = refl
 
 -- The hypotheses of the theorems can be met: the second row once more, as a theorem on all states, and with another view

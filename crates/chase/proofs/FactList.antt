@@ -197,9 +197,9 @@ module _ (s : Signature) (I : State) (l : List ℕ) (limits : Limited s I l) (na
 
   constants : refusal-10 s w ≡ false
   unfolding refusal-10
-  constants = none-any (misnames w) (s .constants) λ a h.
+  constants = none-any (misnames s w) (s .constants) λ a h.
       rw (eq-eqb (count (entries stateLayout w) (namesAt w a)) 1 (names-once a h))
-      (repeats-none (stateOf w .names) (I .names) a (λ b k q. sym (list-names b (omega arith)) ∙ q ∙ list-names a h) (names .apart a h))
+      (repeats-none s (stateOf w .names) (I .names) a (λ b k q. sym (list-names b (omega arith)) ∙ q ∙ list-names a h) (names .apart a h))
 
   pub list-accepted : AcceptedState s w
   list-accepted = sym (state-accepted s w shape faultless order constants)

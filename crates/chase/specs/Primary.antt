@@ -119,6 +119,6 @@ settled t = settle weight (pass t) (suc (bound t))
 unfoldable pub primary : Task → Prime
 primary t = settled t (begin t)
 
--- two declared constants are one object
+-- two declared constants that are to differ are one object
 unfoldable pub clash : Task → Bool
-clash t = any (t .schema .signature .constants) (repeats λ a. repOf (primary t) (constantNode t a))
+clash t = any (t .schema .signature .constants) (repeats (t .schema .signature) λ a. repOf (primary t) (constantNode t a))

@@ -7,6 +7,7 @@ use mathlib.Core.Path.{_≡_, refl, sym, ap, subst, _∙_}
 use native.Mathlib.Omega.{arith}
 use lib.ListN.{length, drop, length-append, length-drop, length-map}
 use lib.Seq.{take-at}
+use Rattle.records.specs.declared.schema.Signature.{Signature}
 use Rattle.records.specs.Layout.{maxTokens, querySteps}
 use Rattle.records.specs.SchemaRecord.{signatureOf, schemaOf}
 use Rattle.records.specs.ConceptRecord.{conceptOf}
@@ -69,8 +70,8 @@ module _ (s q v : List ℕ) (ok : Triple s q v) (r l : List ℕ)
   prime-is = z .value ∙ sym (primary-view s q v)
 
   -- a clash is found where the constants' nodes stand
-  pub clashes-are : (first k : ℕ) → first ≡ length r - signatureOf s .constants → k ≡ signatureOf s .constants → (b : Bool)
-      → b ≡ clashesIn r first k → b ≡ clash (taskOf s q v)
+  pub clashes-are : (first : ℕ) (k : Signature) → first ≡ length r - signatureOf s .constants → k ≡ signatureOf s → (b : Bool)
+      → b ≡ clashesIn k r first → b ≡ clash (taskOf s q v)
   unfolding taskOf schemaOf
   clashes-are first k e f b h = h ∙ rw (e ∙ first-is, f) (clash-is (taskOf s q v) r l prime-is)
 

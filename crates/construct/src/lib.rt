@@ -127,7 +127,7 @@ fn from_nodes(
     let edges = closed(schema, query, reps, sets);
     let s = signature_of(schema);
     let first = reps.len() - s.constants;
-    if clashes(reps, first, s.constants) {
+    if clashes(s, reps, first) {
         return Made {
             clashes: true,
             edges,

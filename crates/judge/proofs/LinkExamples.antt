@@ -14,7 +14,7 @@ use Rattle.records.specs.SchemaRecord.{signatureOf, axiomKind, axiomOf, schemaO
 use Rattle.records.specs.ConceptRecord.{tokenOf, tokenAt, pileAfter, conceptOf}
 use Rattle.records.specs.StateRecord.{objects, kindAt, objectAt, says, saysPair, stateOf}
 use Rattle.records.specs.Shape.{misshapen}
-use Rattle.records.specs.SchemaRefusal.{refusal-1, faultyAxiom, refusal-2, schemaAnswer}
+use Rattle.records.specs.SchemaRefusal.{refusal-1, refusal-14, faultyAxiom, refusal-2, schemaAnswer}
 use Rattle.records.specs.ConceptRefusal.{refusal-3, faultyToken, refusal-4, refusal-5, steps, refusal-6, conceptAnswer}
 use Rattle.records.specs.StateRefusal.{refusal-7, faultyFact, refusal-8, ascends, refusal-9, refusal-10, stateAnswer}
 use Rattle.records.specs.Outcome.{refusal-12, firstRefusal, outcome}
@@ -52,7 +52,7 @@ unfolding
     schemaLayout conceptLayout stateLayout sizeAt entries leftAt rightAt lengthFor
     signatureOf axiomKind axiomOf schemaOf tokenOf tokenAt pileAfter conceptOf objects kindAt objectAt says saysPair stateOf
     recordOf schemaRecord conceptRecord stepsIn stateRecord
-    misshapen refusal-1 faultyAxiom refusal-2 schemaAnswer
+    misshapen refusal-1 refusal-14 faultyAxiom refusal-2 schemaAnswer
     refusal-3 faultyToken refusal-4 refusal-5 steps refusal-6 conceptAnswer
     refusal-7 faultyFact refusal-8 ascends refusal-9 refusal-10 stateAnswer
 persons-straps = (refl, refl, refl, refl)

@@ -30,7 +30,7 @@ begin-is t r s n h p q =
     ap₂ prime p q ∙ ap (λ (m : ℕ). prime (numbersFrom 0 m) (replicate m 0)) h
 
 pub clash-is : (t : Task) (r s : List ℕ) → prime r s ≡ primary t
-    → clashesIn r (suc (conceptSteps (t .query))) (t .schema .signature .constants) ≡ clash t
+    → clashesIn (t .schema .signature) r (suc (conceptSteps (t .query))) ≡ clash t
 unfolding clash repOf
 clash-is t r s e =
-    ap (λ (x : Prime). clashesIn (x .reps) (suc (conceptSteps (t .query))) (t .schema .signature .constants)) e
+    ap (λ (x : Prime). clashesIn (t .schema .signature) (x .reps) (suc (conceptSteps (t .query)))) e

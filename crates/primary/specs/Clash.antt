@@ -1,8 +1,9 @@
--- Two of the constants, whose nodes stand in a row, have one representative.
+-- Two of the constants that are to differ, whose nodes stand in a row, have one representative.
 use Prim.Native.Nat.{ℕ, _+_}
 use mathlib.Core.Bool.{Bool}
 use mathlib.Core.List.{List}
 use lib.ListN.{getD}
+use Rattle.records.specs.declared.schema.Signature.{Signature}
 use Rattle.records.specs.Finite.{any}
 use Rattle.records.specs.State.{repeats}
 
@@ -10,5 +11,5 @@ use Rattle.records.specs.State.{repeats}
 abbrev pub repAt : List ℕ → ℕ → ℕ → ℕ
 repAt reps first a = getD reps (first + a) 0
 
-abbrev pub clashesIn : List ℕ → ℕ → ℕ → Bool
-clashesIn reps first constants = any constants (repeats (repAt reps first))
+abbrev pub clashesIn : Signature → List ℕ → ℕ → Bool
+clashesIn s reps first = any (s .constants) (repeats s (repAt reps first))

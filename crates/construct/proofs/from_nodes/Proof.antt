@@ -4,6 +4,7 @@ use mathlib.Core.Path.{ap, refl, sym, _∙_}
 use native.Mathlib.Omega.{arith}
 use lib.Seq.{length-take-le}
 use Rattle.records.specs.declared.schema.Signature.{Signature}
+use Rattle.records.proofs.AcceptedLaws.{passes-1, signature-few}
 use Rattle.construct.proofs.ArraysLaws.{built-clash, built-open, clashes-are, constants-inside, pair-of}
 use Rattle.construct.proofs.from_nodes.Statement.{statement}
 use Rattle.construct.proofs.from_nodes.Tie as tie
@@ -22,7 +23,10 @@ sub-first c =
 clashes-requires : tie.Need-clashes-requires
 clashes-requires c κs =
     let s = ap (λ (s : Signature). s .constants) (c .before .before .signature-of .ensures) in
-    omega (arith, s, constants-inside _ _ _ (c .before .before .before .before .before .before .before .before .before .before .before .before .before .before .before .pre .0) _ _ (c .before .before .before .before .before .before .before .closed .ensures .0 .prime))
+    let ok = c .before .before .before .before .before .before .before .before .before .before .before .before .before .before .before .pre .0 in (
+      omega (arith, s, constants-inside _ _ _ ok _ _ (c .before .before .before .before .before .before .before .closed .ensures .0 .prime)),
+      omega (arith, s, signature-few _ (passes-1 _ (ok .schema-accepted)) .2),
+    )
 
 same-length : tie.Need-same-length
 same-length c = search needs
@@ -34,7 +38,7 @@ returns : tie.Need-returns
 returns c =
     let room = c .before .before .before .before .before .before .before .before .before .closed .ensures .1 in
     built-clash _ _ _ _ _ _
-    (sym (clashes-are _ _ _ (c .before .before .before .before .before .before .before .before .before .before .before .before .before .before .before .before .before .pre .0) _ _ (c .before .before .before .before .before .before .before .before .before .closed .ensures .0 .prime) _ _ (rw (c .before .before .before .before .signature-of .ensures)) (rw (c .before .before .before .before .signature-of .ensures)) _ (c .before .clashes .ensures))
+    (sym (clashes-are _ _ _ (c .before .before .before .before .before .before .before .before .before .before .before .before .before .before .before .before .before .pre .0) _ _ (c .before .before .before .before .before .before .before .before .before .closed .ensures .0 .prime) _ _ (rw (c .before .before .before .before .signature-of .ensures)) (c .before .before .before .before .signature-of .ensures) _ (c .before .clashes .ensures))
     ∙ c .if1 .taken) refl (room .0) (room .1)
 
 array-borrow-prefix-words : tie.Need-array-borrow-prefix-words
@@ -56,7 +60,7 @@ returns-2 : tie.Need-returns-2
 returns-2 c =
     let room = c .before .before .before .before .before .before .before .before .before .before .before .before .before .before .before .before .closed .ensures .1 in
     built-open _ _ _ _ _ _ _ _ _
-    (sym (clashes-are _ _ _ (c .before .before .before .before .before .before .before .before .before .before .before .before .before .before .before .before .before .before .before .before .before .before .before .before .pre .0) _ _ (c .before .before .before .before .before .before .before .before .before .before .before .before .before .before .before .before .closed .ensures .0 .prime) _ _ (rw (c .before .before .before .before .before .before .before .before .before .before .before .signature-of .ensures)) (rw (c .before .before .before .before .before .before .before .before .before .before .before .signature-of .ensures)) _ (c .before .before .before .before .before .before .before .before .clashes .ensures))
+    (sym (clashes-are _ _ _ (c .before .before .before .before .before .before .before .before .before .before .before .before .before .before .before .before .before .before .before .before .before .before .before .before .pre .0) _ _ (c .before .before .before .before .before .before .before .before .before .before .before .before .before .before .before .before .closed .ensures .0 .prime) _ _ (rw (c .before .before .before .before .before .before .before .before .before .before .before .signature-of .ensures)) (c .before .before .before .before .before .before .before .before .before .before .before .signature-of .ensures) _ (c .before .before .before .before .before .before .before .before .clashes .ensures))
     ∙ c .before .before .before .before .before .before .before .if1 .left) (c .before .from-primary .ensures .0)
     (sym (c .before .from-primary .ensures .1 ∙ length-take-le _ _ (omega (arith, room .0, room .1)))) (room .0) (room .1)
 
