@@ -75,8 +75,17 @@ class State:
         return pile.pop()
 
 
+    def misnames(self, constants, loose):
+        """Whether a constant has no object or several, or two that are not loose have the same."""
+        objects = [self.members(32 + k) for k in range(constants)]
+        firm = [found for k, found in enumerate(objects) if not loose >> k & 1]
+        return any(len(found) != 1 for found in objects) or len(set.union(set(), *firm)) < len(firm)
+
+
 def judged(lines, schema_words, query, view):
     state = State(lines)
+    _, _, constants, _, loose, *_ = schema_words
+    assert not state.misnames(constants, loose), "an object for each constant"
     assert not any(state.breaks(*axiom) for axiom in axioms(schema_words)), "a legal state"
     assert state.object in state.selects(query) - state.selects(view), "an object in the query and outside the view"
 

@@ -1,6 +1,6 @@
 #!/usr/bin/env python3
-"""The edges of document 01 for the record checks: each case is a record, its role, and the refusal that the document
-gives it (0: accepted), worked out by hand.
+"""The edges of documents 01 and 02 for the record checks: each case is a record, its role, and the refusal that the documents
+give it (0: accepted), worked out by hand.
 
   record_edges.py write   write the cases and the expected output into crates/record_edges
   record_edges.py check   fail if what is written there differs from this table
@@ -41,12 +41,12 @@ LARGE = schema(24, 8, 4)
 SMALL = schema(2, 1, 1)
 
 CASES = [
-    # 1: fewer than 4 words, a size above its limit, or a length other than 4 + 2n.
+    # 1: fewer than 5 words, a size above its limit, or a length other than 5 + 2n.
     ("schema", [], 1),
     ("schema", [0], 1),
-    ("schema", [0, 0, 0], 1),
-    ("schema", [0, 0, 0, 0], 0),
-    ("schema", [0, 0, 0, 0, 0], 1),
+    ("schema", [0, 0, 0, 0], 1),
+    ("schema", [0, 0, 0, 0, 0], 0),
+    ("schema", [0, 0, 0, 0, 0, 0], 1),
     ("schema", schema(25, 8, 4), 1),
     ("schema", schema(24, 9, 4), 1),
     ("schema", schema(24, 8, 5), 1),
@@ -54,6 +54,21 @@ CASES = [
     ("schema", schema(1, 0, 0, [SUBCLASS] * 97), 1),
     ("schema", schema(1, 0, 0, [SUBCLASS])[:-1], 1),
     ("schema", schema(1, 0, 0, [SUBCLASS]) + [0], 1),
+    # 1 before 14: a size above its limit beside a loose constant that is not declared.
+    ("schema", schema(1, 0, 5, loose=32), 1),
+    # 14: a constant that is marked loose is not declared; bit k, from the lowest, marks constant k. The word itself has no limit.
+    ("schema", schema(0, 0, 0, loose=1), 14),
+    ("schema", schema(0, 0, 1, loose=1), 0),
+    ("schema", schema(0, 0, 1, loose=2), 14),
+    ("schema", schema(0, 0, 3, loose=4), 0),
+    ("schema", schema(0, 0, 3, loose=8), 14),
+    ("schema", schema(0, 0, 4, loose=15), 0),
+    ("schema", schema(0, 0, 4, loose=16), 14),
+    ("schema", schema(0, 0, 4, loose=1 << 15), 14),
+    ("schema", schema(0, 0, 4, loose=65535), 14),
+    # 14 before 2.
+    ("schema", schema(1, 0, 1, [axiom(0, 0, 0)], 2), 14),
+    ("schema", schema(1, 0, 1, [axiom(0, 0, 0)], 1), 2),
     # 1 before 2: a size above its limit beside a bad axiom.
     ("schema", schema(25, 0, 0, [axiom(0, 0, 0)]), 1),
     # 2: a kind outside 1 to 5, or an undeclared class or attribute.
@@ -157,7 +172,7 @@ CASES = [
     ("state", state(2, [member(1, 0), member(0, 1)]), 9),
     ("state", state(2, [pair(0, 0, 1), pair(0, 0, 0)]), 9),
     ("state", state(2, [pair(0, 0, 0), pair(0, 0, 1)]), 0),
-    # 10: a declared constant has no object or several, or two constants have the same object.
+    # 10: a declared constant has no object or several, or two constants that are not loose have the same object.
     ("schema", schema(1, 0, 2), 0),
     ("state", state(2, []), 10),
     ("state", state(2, [name(0, 0)]), 10),
@@ -166,6 +181,21 @@ CASES = [
     ("state", state(2, [name(0, 1), name(1, 0)]), 0),
     # 9 before 10.
     ("state", state(2, [name(1, 1), name(0, 1)]), 9),
+    # A loose constant may share its object, but has one.
+    ("schema", schema(1, 0, 2, loose=1), 0),
+    ("state", state(2, [name(0, 1), name(1, 1)]), 0),
+    ("state", state(2, [name(0, 1), name(1, 0)]), 0),
+    ("state", state(2, [name(1, 1)]), 10),
+    ("state", state(2, [name(0, 0), name(0, 1), name(1, 1)]), 10),
+    ("schema", schema(1, 0, 2, loose=2), 0),
+    ("state", state(2, [name(0, 1), name(1, 1)]), 0),
+    ("state", state(2, [name(0, 1)]), 10),
+    ("schema", schema(1, 0, 3, loose=4), 0),
+    ("state", state(2, [name(0, 0), name(1, 1), name(2, 1)]), 0),
+    ("state", state(2, [name(0, 0), name(1, 1), name(2, 0)]), 0),
+    ("state", state(2, [name(0, 0), name(1, 0), name(2, 0)]), 10),
+    ("schema", schema(1, 0, 3, loose=6), 0),
+    ("state", state(2, [name(0, 0), name(1, 0), name(2, 0)]), 0),
 ]
 
 

@@ -183,16 +183,19 @@ def refusals(rows, orders, lent):
         hold(f"refusal {n} in the header", int(n), C.get(name))
     for name in re.findall(r"`(bikuvoa_\w+)`", PAGE):
         hold(f"{name} is in the header", f"{name}(" in HEADER, True)
-    for record in ("schema", "concept", "state"):
+    text = " ".join(PAGE.split())
+    first, second, third = map(int, re.search(r"only a schema is checked by (\d+), (\d+) and (\d+), in this order", text).groups())
+    hold("refusals of a schema by number", page["schema"], sorted([first, second, third]))
+    for record, numbers in (("schema", [first, second, third]), ("concept", page["concept"]), ("state", page["state"])):
         code = re.findall(r"=> (\w+),", function(record, "number"))
-        hold(f"refusals of a {record}", [0, *page[record]], [value(n) for n in code])
+        hold(f"refusals of a {record}", [0, *numbers], [value(n) for n in code])
     hold("functions", [row[0] for row in orders], re.findall(r"^uint16_t bikuvoa_(\w+)\(", HEADER, re.M))
     hold("functions with lent words", [row[0] for row in lent], [entry for entry, text in orders if "lent words" in text])
     hold("refusals of a catalogue", ["bad_layout", *(f"return {n}" for n in page["catalogue"]), "check_view"],
          re.findall(r"bad_layout|return \d+|check_view", function("catalogue", "check_catalogue")))
     hold("refusals of an attribute", [*page["attribute"], 0], [value(n) for n in re.findall(r"{ (\d+) }", function("links", "attribute_number"))])
-    alone = [*page["schema"], *page["concept"]]
-    hold("refusals of a concept by itself", re.findall(r"refusals are (\d+) to (\d+)", PAGE), [(str(alone[0]), str(alone[-1]))])
+    least, most, more = map(int, re.search(r"Their refusals are (\d+) to (\d+) and (\d+)", text).groups())
+    hold("refusals of a concept by itself", [*range(least, most + 1), more], sorted(page["schema"] + page["concept"]))
     looks = {"lent words": ["lent.len", *(f"Refused({n})" for n in page["lent words"])], "attribute": ["attribute_number"],
              **{role: looked_at("concept", f"check_{role}") for role in ("query", "view")}}
     for entry, text in orders:
@@ -342,7 +345,7 @@ def example(schema, query, view, state, sorts, naming, shown, views, groups):
 def decided(kept, query, view):
     """What the program prints under those of the club's axioms that are kept."""
     sizes, axioms = split(CLUB, "schema")
-    cut = words.schema(*sizes[:C["AT_AXIOMS"]], [axioms[i] for i in kept])
+    cut = words.schema(*sizes[:C["AT_AXIOMS"]], [axioms[i] for i in kept], sizes[C["AT_LOOSE"]])
     files = triples.files(ROOT, cut, words.concept(query), words.concept(view))
     return run({path.name: content for path, content in files.items()})
 

@@ -1,5 +1,5 @@
 #!/usr/bin/env python3
-"""Triples of schema, query and view with the verdicts of document 01, for the programs `triples` and `bikuvoa`, and the rowing
+"""Triples of schema, query and view with the verdicts of documents 01 and 02, for the programs `triples` and `bikuvoa`, and the rowing
 club's example with its catalogue, for `bikuvoa_order`. Expected verdicts are the papers', worked out by hand where the papers say
 none.
 
@@ -80,6 +80,19 @@ ONE_VALUE = forward(both(is_a(B), is_a(C)))
 LOOP = (needs(A, P), types(A, P, A))
 TWO_CONSTANTS = both([(CONSTANT, 0)], [(CONSTANT, 1)])
 
+
+def loose_of(n, *loose):
+    """Three classes, two attributes and n constants, of which these are loose; A has at most one P."""
+    return schema(3, 2, n, [single(A, P)], sum(1 << k for k in loose))
+
+
+def values(*constants):
+    """Objects of A with each of these constants as a value of P."""
+    found = is_a(A)
+    for k in constants:
+        found = both(found, forward([(CONSTANT, k)]))
+    return found
+
 # The medical example of the report.
 PATIENT, PERSON, DRUG, DOCTOR, DISEASE, STRING, TOPIC, MALE, FEMALE = range(9)
 TAKES, CONSULTS, SUFFERS, NAME, SKILLED_IN = range(5)
@@ -123,8 +136,23 @@ TRIPLES = [
     (small(needs(A, P)), is_a(A), reached((FORWARD, P, ANY), (BACKWARD, P, is_a(A))), "HELD"),
     (CLUB, ROWERS, RECORDED, "HELD"),
     (CLUB, RECORDED, ROWERS, "OPEN"),
+    # Two constants at once, or as the one value of P: a clash unless one of them is loose.
+    (loose_of(2, 0), TWO_CONSTANTS, is_a(A), "OPEN"),
+    (loose_of(2, 1), TWO_CONSTANTS, is_a(A), "OPEN"),
+    (loose_of(2, 0, 1), TWO_CONSTANTS, is_a(A), "OPEN"),
+    (loose_of(3, 2), TWO_CONSTANTS, is_a(A), "HELD"),
+    (loose_of(2), values(0, 1), is_a(B), "HELD"),
+    (loose_of(2, 1), values(0, 1), is_a(B), "OPEN"),
+    # They are then one object, and two that are not loose differ also where each is a loose third.
+    (loose_of(2, 1), values(0, 1), forward(TWO_CONSTANTS), "HELD"),
+    (loose_of(3, 2), values(0, 2, 1), is_a(B), "HELD"),
+    (loose_of(3, 0, 2), values(0, 2, 1), is_a(B), "OPEN"),
+    # A loose constant may share an object, and need not.
+    (loose_of(2, 0, 1), [(CONSTANT, 0)], [(CONSTANT, 1)], "OPEN"),
     # Faulty records are refused in the order schema, query, view.
     ([], is_a(A), is_a(A), "REFUSED 1"),
+    ([1, 0, 0, 0], is_a(A), is_a(A), "REFUSED 1"),
+    (schema(1, 0, 1, [axiom(6, 0, 0)], 2), is_a(9), [BOTH], "REFUSED 14"),
     (small(axiom(6, 0, 0)), is_a(9), [BOTH], "REFUSED 2"),
     (small(), [], [BOTH], "REFUSED 3"),
     (small(), is_a(3), [BOTH], "REFUSED 4"),

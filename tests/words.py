@@ -5,9 +5,9 @@ import struct
 CLASS, EVERYTHING, CONSTANT, BOTH, EMPTY, FORWARD, BACKWARD, REACHED, COMMON = range(1, 10)
 
 
-def schema(classes, attributes, constants, axioms=()):
+def schema(classes, attributes, constants, axioms=(), loose=0):
     left, right = zip(*axioms) if axioms else ((), ())
-    return [classes, attributes, constants, len(axioms), *left, *right]
+    return [classes, attributes, constants, len(axioms), loose, *left, *right]
 
 
 def entries(record, sizes):

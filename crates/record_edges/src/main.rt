@@ -28,10 +28,10 @@ fn check(role: u16, s: Signature, record: &[u16]) -> Signature {
         1 => {
             let answer = check_schema(record);
             report(b" schema ", answer.number());
-            match answer {
-                SchemaAnswer::Accepted(next) => next,
-                SchemaAnswer::BadShape => s,
-                SchemaAnswer::BadAxiom => s,
+            if let SchemaAnswer::Accepted(next) = answer {
+                next
+            } else {
+                s
             }
         }
         2 => {
@@ -55,6 +55,7 @@ fn run(words: &[u16]) {
         classes: 0,
         attributes: 0,
         constants: 0,
+        loose: 0,
     };
     let mut at = 0;
     let mut case: u64 = 0;
