@@ -9,6 +9,7 @@
 
 enum { PERSON, ROWER, STRAP, SESSION, BEAT, CLASSES };
 enum { WEARS, RECORDS, DURING, ATTENDS, ATTRIBUTES };
+enum { NUMBER_17, NUMBER_40, CONSTANTS }; /* numbers of straps */
 static const char *const CLASS_NAMES[] = {"Person", "Rower", "Strap", "Session", "Beat"};
 static const char *const ATTRIBUTE_NAMES[] = {"wears", "records", "during", "attends"};
 enum { PERSONS, WEARERS, ROWERS, VIEWS };
@@ -79,10 +80,11 @@ static void answer(const Query *query)
     printf(" (from %s, looking at %d)\n", from ? from->name : "all objects", looks);
 }
 
-/* What the store holds: the rowing club, as in example/club.c. */
+/* What the store holds: the rowing club, as in example/club.c, and numbers of its straps. */
 static void make_schema(void)
 {
-    schema = bikuvoa_start_schema(schema_words, BIKUVOA_SCHEMA_WORDS(AXIOMS), CLASSES, ATTRIBUTES, 0);
+    schema = bikuvoa_start_schema(schema_words, BIKUVOA_SCHEMA_WORDS(AXIOMS), CLASSES, ATTRIBUTES, CONSTANTS);
+    bikuvoa_loose(&schema, NUMBER_40); /* a strap may have it beside another number */
     bikuvoa_subclass(&schema, ROWER, PERSON);
     bikuvoa_necessary(&schema, ROWER, WEARS);
     bikuvoa_single(&schema, PERSON, WEARS);
@@ -145,8 +147,8 @@ static void put_narrow_first(void)
     printf("\n");
 }
 
-/* Rower 0 and person 1 wear straps 3 and 4, which have recorded beats 5 and 6 of session 7; 0 and person 2 attend it. Then
- * person 2 is to be a rower, but wears nothing. */
+/* Rower 0 and person 1 wear straps 3 and 4, which have recorded beats 5 and 6 of session 7; 0 and person 2 attend it. Strap 3
+ * is registered under both numbers. Then person 2 is to be a rower, but wears nothing. */
 static void make_changes(void)
 {
     uint16_t words[BIKUVOA_STATE_WORDS(FACTS)];
@@ -163,6 +165,8 @@ static void make_changes(void)
     bikuvoa_member(&next, SESSION, 7);
     bikuvoa_pair(&next, ATTENDS, 0, 7);
     bikuvoa_pair(&next, ATTENDS, 2, 7);
+    bikuvoa_name(&next, NUMBER_17, 3);
+    bikuvoa_name(&next, NUMBER_40, 3);
     change("a season", next);
     bikuvoa_member(&next, ROWER, 2);
     change("a rower without a strap", next);
@@ -178,6 +182,11 @@ static int is(size_t kind, size_t object)
 static int is_strap(size_t object)
 {
     return is(STRAP, object);
+}
+
+static int has_both_numbers(size_t object)
+{
+    return is(BIKUVOA_CONSTANT_KINDS + NUMBER_17, object) && is(BIKUVOA_CONSTANT_KINDS + NUMBER_40, object);
 }
 
 static int attends(size_t object)
@@ -267,6 +276,13 @@ int main(void)
 
     c = start_query(&query, "straps", is_strap);
     bikuvoa_class(c, STRAP);
+    answer(&query);
+
+    /* Were neither number loose, nothing could have both, and any list would do. */
+    c = start_query(&query, "the strap with numbers 17 and 40", has_both_numbers);
+    bikuvoa_constant(c, NUMBER_17);
+    bikuvoa_constant(c, NUMBER_40);
+    bikuvoa_both(c);
     answer(&query);
 
     count_attendances(&views[PERSONS]);

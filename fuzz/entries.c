@@ -21,9 +21,10 @@
 int LLVMFuzzerTestOneInput(const uint8_t *data, size_t size);
 
 /* How many calls of decide had each verdict, how many counts of links were above 0, or refused for the attribute, how many
- * checks found a class twice, or more steps than a view may have, and how many catalogues had a group of several views, a group
- * before one with a lower number, or another layout. */
-static unsigned long verdicts[4], linked, undeclared, repeated, many_steps, grouped, ahead, other_layout;
+ * checks found a class twice, or more steps than a view may have, how many catalogues had a group of several views, a group
+ * before one with a lower number, or another layout, how many schemas were refused for the loose word, and how many states that
+ * decide wrote have one object for several constants. */
+static unsigned long verdicts[4], linked, undeclared, repeated, many_steps, grouped, ahead, other_layout, bad_loose, shared;
 
 #define CHECK(ok) ((ok) ? (void)0 : fail(#ok, __LINE__))
 
@@ -131,6 +132,8 @@ static Words built_schema(Input *in, Declared d)
 {
     uint16_t words[BIKUVOA_MAX_SCHEMA_WORDS];
     bikuvoa_schema s = bikuvoa_start_schema(words, BIKUVOA_MAX_SCHEMA_WORDS, d.classes, d.attributes, d.constants);
+    for (size_t k = 0, loose = byte(in); k < d.constants; k++)
+        if (loose >> k & 1) bikuvoa_loose(&s, k);
     for (size_t n = d.classes && d.attributes ? below(in, 12) : 0; n > 0; n--) {
         size_t kind = below(in, 5), a = below(in, d.classes), b = below(in, d.classes), p = below(in, d.attributes);
         if (kind == 0) bikuvoa_subclass(&s, a, b);
@@ -156,12 +159,22 @@ static void put_path(Input *in, Declared d, bikuvoa_concept *c, size_t *steps)
     }
 }
 
+/* Mostly several at once: an object may be in all of them if at most one is not loose. */
+static void put_constants(Input *in, Declared d, bikuvoa_concept *c)
+{
+    bikuvoa_constant(c, below(in, d.constants));
+    for (size_t n = below(in, 3); n > 0; n--) {
+        bikuvoa_constant(c, below(in, d.constants));
+        bikuvoa_both(c);
+    }
+}
+
 /* An input that has ended gives "everything", so that this ends. */
 static void put_concept(Input *in, Declared d, bikuvoa_concept *c, size_t *steps)
 {
     size_t sort = in->left ? byte(in) % 8 : 0;
     if (sort == 1 && d.constants) {
-        bikuvoa_constant(c, below(in, d.constants));
+        put_constants(in, d, c);
     } else if (sort == 2) {
         put_concept(in, d, c, steps);
         put_concept(in, d, c, steps);
@@ -215,12 +228,14 @@ static Words built_views(Input *in, Declared d, const Words *r)
     return copied(VIEWS, v.words, v.length);
 }
 
+/* Now and then a constant is left out. */
 static Words built_state(Input *in, Declared d)
 {
     uint16_t words[BIKUVOA_STATE_WORDS(40)];
     size_t n = d.constants + below(in, 8);
     bikuvoa_state s = bikuvoa_start_state(words, BIKUVOA_STATE_WORDS(40), n);
-    for (size_t k = 0; k < d.constants; k++) bikuvoa_name(&s, k, in->left ? below(in, n) : k);
+    for (size_t k = 0; k < d.constants; k++)
+        if (!in->left || byte(in) % 32) bikuvoa_name(&s, k, in->left ? below(in, n) : k);
     for (size_t facts = n ? below(in, 32) : 0; facts > 0; facts--) {
         size_t kind = below(in, d.classes + d.attributes), object = below(in, n), second = below(in, n);
         if (kind < d.classes) bikuvoa_member(&s, kind, object);
@@ -268,12 +283,44 @@ static uint16_t selected(const Words *r, Words concept, Words state, size_t room
     return 0;
 }
 
+/* The object that constant k names, or one that no state has if there is not exactly one. */
+static size_t named_by(Words state, size_t k)
+{
+    size_t object = BIKUVOA_MAX_OBJECTS, facts = 0;
+    for (size_t i = 0; i < bikuvoa_facts(state.at); i++) {
+        if (bikuvoa_fact_kind(state.at, i) != BIKUVOA_CONSTANT_KINDS + k) continue;
+        object = bikuvoa_fact_object(state.at, i);
+        facts++;
+    }
+    return facts == 1 ? object : BIKUVOA_MAX_OBJECTS;
+}
+
+/* Whether two of these constants name one object. */
+static int share(Words state, unsigned constants)
+{
+    for (size_t a = 0; a < BIKUVOA_MAX_CONSTANTS; a++)
+        for (size_t b = 0; b < a; b++)
+            if ((constants >> a & 1) && (constants >> b & 1) && named_by(state, a) == named_by(state, b)) return 1;
+    return 0;
+}
+
+/* Whether each constant names one object, and no two that are not loose the same. */
+static int are_names(Words schema, Words state)
+{
+    unsigned declared = (1u << schema.at[BIKUVOA_AT_CONSTANTS]) - 1, loose = schema.at[BIKUVOA_AT_LOOSE];
+    for (size_t k = 0; declared >> k; k++)
+        if (named_by(state, k) == BIKUVOA_MAX_OBJECTS) return 0;
+    return !share(state, declared & ~loose);
+}
+
+/* Refused for its constants exactly if they are no names. */
 static uint16_t broken_axiom(const Words *r, Words state, uint64_t *broken)
 {
     uint16_t returned;
     *broken = UNTOUCHED_OUT;
     returned = bikuvoa_legal(r[SCHEMA].at, r[SCHEMA].words, state.at, state.words, broken);
     CHECK(returned ? *broken == UNTOUCHED_OUT : *broken <= r[SCHEMA].at[BIKUVOA_AT_AXIOMS]);
+    if (returned == 0 || returned == BIKUVOA_BAD_CONSTANTS) CHECK(are_names(r[SCHEMA], state) == (returned == 0));
     return returned;
 }
 
@@ -404,6 +451,7 @@ static uint16_t check_decide(const Words *r, size_t room)
         CHECK(check_counterexample(r, written, &found) == 0 && 0 < found && found <= object + 1);
         CHECK(selected(r, r[QUERY], written, BIKUVOA_MAX_OBJECTS, in_query) == 0 && in_query[object]);
         CHECK(selected(r, r[VIEW], written, BIKUVOA_MAX_OBJECTS, in_view) == 0 && !in_view[object]);
+        shared += share(written, (1u << r[SCHEMA].at[BIKUVOA_AT_CONSTANTS]) - 1) != 0;
     }
     return returned;
 }
@@ -487,6 +535,23 @@ static uint16_t check_catalogue(const Words *r, size_t rows_room, size_t order_r
     return 0;
 }
 
+/* The refusal of a schema before its axioms are looked at: for its shape, then for its loose word. */
+static uint16_t bad_sizes(Words schema)
+{
+    const uint16_t *w = schema.at;
+    if (schema.words < BIKUVOA_SCHEMA_SIZES || w[BIKUVOA_AT_CLASSES] > BIKUVOA_MAX_CLASSES
+        || w[BIKUVOA_AT_ATTRIBUTES] > BIKUVOA_MAX_ATTRIBUTES || w[BIKUVOA_AT_CONSTANTS] > BIKUVOA_MAX_CONSTANTS
+        || w[BIKUVOA_AT_AXIOMS] > BIKUVOA_MAX_AXIOMS || schema.words != BIKUVOA_SCHEMA_WORDS((size_t)w[BIKUVOA_AT_AXIOMS]))
+        return BIKUVOA_BAD_SCHEMA_SHAPE;
+    return w[BIKUVOA_AT_LOOSE] >> w[BIKUVOA_AT_CONSTANTS] ? BIKUVOA_BAD_LOOSE : 0;
+}
+
+/* Whether it is 0 or among these numbers. */
+static int is_among(uint16_t refusal, uint16_t lowest, uint16_t highest)
+{
+    return refusal == 0 || (lowest <= refusal && refusal <= highest);
+}
+
 /* The refusals of each record by itself, taken in the order of the checks, are those of the calls. */
 static uint16_t first(uint16_t one, uint16_t two)
 {
@@ -508,14 +573,17 @@ static void check_all(const Words *r, size_t select_room, uint16_t attribute, si
 {
     uint8_t in_query[BIKUVOA_MAX_OBJECTS];
     uint64_t broken, found;
-    uint16_t schema = bikuvoa_schema_refusal(r[SCHEMA].at, r[SCHEMA].words);
+    uint16_t schema = bikuvoa_schema_refusal(r[SCHEMA].at, r[SCHEMA].words), sizes = bad_sizes(r[SCHEMA]);
     uint16_t query = check_concept(r, r[QUERY]).query, view = check_concept(r, r[VIEW]).view;
     uint16_t state = broken_axiom(r, r[STATE], &broken);
     size_t objects = state ? 0 : r[STATE].at[BIKUVOA_AT_OBJECTS];
     size_t attributes = schema ? 0 : r[SCHEMA].at[BIKUVOA_AT_ATTRIBUTES];
-    CHECK(schema <= BIKUVOA_BAD_AXIOM && query <= BIKUVOA_BAD_STEPS && view <= BIKUVOA_BAD_STEPS);
+    CHECK(sizes ? schema == sizes : is_among(schema, BIKUVOA_BAD_AXIOM, BIKUVOA_BAD_AXIOM));
     CHECK(!schema || (query == schema && view == schema && state == schema));
-    CHECK(schema || state == 0 || (BIKUVOA_BAD_STATE_SHAPE <= state && state <= BIKUVOA_BAD_CONSTANTS));
+    CHECK(schema || is_among(query, BIKUVOA_BAD_CONCEPT_SHAPE, BIKUVOA_BAD_STEPS));
+    CHECK(schema || is_among(view, BIKUVOA_BAD_CONCEPT_SHAPE, BIKUVOA_BAD_STEPS));
+    CHECK(schema || is_among(state, BIKUVOA_BAD_STATE_SHAPE, BIKUVOA_BAD_CONSTANTS));
+    bad_loose += schema == BIKUVOA_BAD_LOOSE;
     CHECK(selected(r, r[QUERY], r[STATE], select_room, in_query)
           == first(first(query, state), few_words(select_room, objects)));
     CHECK(check_counterexample(r, r[STATE], &found) == first(first(query, view), state));
@@ -549,7 +617,7 @@ int LLVMFuzzerTestOneInput(const uint8_t *data, size_t size)
         r[VIEW] = built_concept(&in, d, VIEW, BIKUVOA_VIEW_STEPS);
         r[STATE] = built_state(&in, d);
         r[VIEWS] = built_views(&in, d, r);
-        if (way % 8 < 4) damage(&in, r);
+        for (size_t n = way % 8 < 4 ? 1 + way / 8 % 3 : 0; n > 0; n--) damage(&in, r);
     }
     objects = r[STATE].words > BIKUVOA_AT_OBJECTS ? r[STATE].at[BIKUVOA_AT_OBJECTS] : 0;
     check_all(r, objects > 0 && rooms % 4 == 0 ? objects - 1 : objects + rooms % 4, attribute,
@@ -573,10 +641,11 @@ int main(int argc, char **argv)
         LLVMFuzzerTestOneInput(data, sizeof data);
     }
     printf("%ld inputs: held %lu, open %lu, refused %lu; links %lu, attribute not declared %lu; a class twice %lu, "
-           "too many steps for a view %lu; groups of several views %lu, before a lower number %lu, another layout %lu\n",
+           "too many steps for a view %lu; groups of several views %lu, before a lower number %lu, another layout %lu; "
+           "loose and not declared %lu, one object of several constants %lu\n",
            inputs, verdicts[BIKUVOA_HELD], verdicts[BIKUVOA_OPEN], verdicts[BIKUVOA_REFUSED], linked, undeclared, repeated,
-           many_steps, grouped, ahead, other_layout);
+           many_steps, grouped, ahead, other_layout, bad_loose, shared);
     return verdicts[BIKUVOA_HELD] && verdicts[BIKUVOA_OPEN] && verdicts[BIKUVOA_REFUSED] && linked && undeclared && repeated
-           && many_steps && grouped && ahead && other_layout ? 0 : 1;
+           && many_steps && grouped && ahead && other_layout && bad_loose && shared ? 0 : 1;
 }
 #endif

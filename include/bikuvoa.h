@@ -38,7 +38,7 @@ extern "C" {
 
 /* While the major version is 0, a new minor version may change the format of records. */
 #define BIKUVOA_VERSION_MAJOR 0
-#define BIKUVOA_VERSION_MINOR 5
+#define BIKUVOA_VERSION_MINOR 6
 #define BIKUVOA_VERSION_PATCH 0
 #define BIKUVOA_VERSION (BIKUVOA_VERSION_MAJOR * 10000 + BIKUVOA_VERSION_MINOR * 100 + BIKUVOA_VERSION_PATCH)
 
@@ -65,7 +65,8 @@ extern "C" {
 #define BIKUVOA_AT_ATTRIBUTES 1
 #define BIKUVOA_AT_CONSTANTS 2
 #define BIKUVOA_AT_AXIOMS 3
-#define BIKUVOA_SCHEMA_SIZES 4
+#define BIKUVOA_AT_LOOSE 4
+#define BIKUVOA_SCHEMA_SIZES 5
 
 #define BIKUVOA_AT_TOKENS 0
 #define BIKUVOA_AT_STEPS 1
@@ -123,9 +124,9 @@ enum bikuvoa_token_sort {
 #define BIKUVOA_FACT_KINDS (BIKUVOA_CONSTANT_KINDS + BIKUVOA_MAX_CONSTANTS)
 
 /* What the functions return. The records are checked in the order of the parameters, each by these numbers from the lowest
- * up, and after them the attribute or the lent words, where a function takes them. 3 to 6 may be of the query or of the view:
- * bikuvoa_query_refusal tells which. Of a catalogue the layout is checked first, by 13, then one view after the other by 3 to
- * 6: the first that bikuvoa_view_refusal refuses is at fault. */
+ * up, except that a schema is checked by 14 directly after 1; and after them the attribute or the lent words, where a function
+ * takes them. 3 to 6 may be of the query or of the view: bikuvoa_query_refusal tells which. Of a catalogue the layout is checked
+ * first, by 13, then one view after the other by 3 to 6: the first that bikuvoa_view_refusal refuses is at fault. */
 enum bikuvoa_refusal {
     BIKUVOA_ACCEPTED = 0,
     BIKUVOA_BAD_SCHEMA_SHAPE = 1,
@@ -140,7 +141,8 @@ enum bikuvoa_refusal {
     BIKUVOA_BAD_CONSTANTS = 10,
     BIKUVOA_FEW_LENT_WORDS = 11,
     BIKUVOA_BAD_ATTRIBUTE = 12,
-    BIKUVOA_BAD_CATALOGUE = 13
+    BIKUVOA_BAD_CATALOGUE = 13,
+    BIKUVOA_BAD_LOOSE = 14
 };
 
 BIKUVOA_INLINE const char *bikuvoa_refusal_text(uint16_t refusal)
@@ -168,13 +170,16 @@ BIKUVOA_INLINE const char *bikuvoa_refusal_text(uint16_t refusal)
     case BIKUVOA_BAD_ORDER:
         return "state: facts that do not ascend, or a fact twice";
     case BIKUVOA_BAD_CONSTANTS:
-        return "state: a declared constant without an object or with several, or two constants with the same object";
+        return "state: a declared constant without an object or with several, or two that are not loose with the same "
+               "object";
     case BIKUVOA_FEW_LENT_WORDS:
         return "lent words: too few";
     case BIKUVOA_BAD_ATTRIBUTE:
         return "attribute: not declared";
     case BIKUVOA_BAD_CATALOGUE:
         return "catalogue: no view, too many, or a length that does not fit the count and the length words";
+    case BIKUVOA_BAD_LOOSE:
+        return "schema: a constant that is marked loose and not declared";
     default:
         return "a number that is no refusal";
     }
@@ -331,7 +336,7 @@ BIKUVOA_INLINE size_t bikuvoa_insert(uint16_t *words, size_t room, size_t length
     return length + 2;
 }
 
-/* A schema of so many classes, attributes and constants, without axioms. */
+/* A schema of so many classes, attributes and constants, none of them loose, without axioms. */
 BIKUVOA_INLINE bikuvoa_schema bikuvoa_start_schema(uint16_t *words, size_t room, size_t classes, size_t attributes,
                                                    size_t constants)
 {
@@ -345,6 +350,13 @@ BIKUVOA_INLINE bikuvoa_schema bikuvoa_start_schema(uint16_t *words, size_t room,
         words[BIKUVOA_AT_CONSTANTS] = bikuvoa_word(constants);
     }
     return s;
+}
+
+/* Marks constant k as loose: it may name the same object as any other constant. */
+BIKUVOA_INLINE void bikuvoa_loose(bikuvoa_schema *schema, size_t k)
+{
+    if (schema->length == 0) return;
+    schema->words[BIKUVOA_AT_LOOSE] = bikuvoa_word(schema->words[BIKUVOA_AT_LOOSE] | 1u << bikuvoa_part(k, 16));
 }
 
 /* Adds an axiom by its words. */

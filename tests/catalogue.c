@@ -315,7 +315,7 @@ static void some_inclusions(void)
 }
 
 /* Document 01's schema X with its selections, its triples, the example of the report and the rowing club; and views that hold
- * each other, or have no objects, by the axioms. */
+ * each other, or have no objects, by the axioms and by which constants are loose. */
 
 typedef struct {
     uint16_t left, right;
@@ -371,42 +371,51 @@ enum { CLUB_WEARS, RECORDS, DURING, ATTENDS };
         TOKENS(CONSTANT(1), CONSTANT(0), BOTH), TOKENS(EVERYTHING)                                                            \
     }
 
+/* A view that has no object in any legal state, as two constants at once that are both not loose, is held by all. */
+#define CONSTANTS                                                                                                             \
+    {                                                                                                                         \
+        TOKENS(CONSTANT(0)), TOKENS(CONSTANT(1)), TOKENS(CONSTANT(2)), TOKENS(CONSTANT(0), CONSTANT(1), BOTH),                \
+        TOKENS(CONSTANT(1), CONSTANT(2), BOTH), TOKENS(CONSTANT(2), CONSTANT(0), BOTH),                                       \
+        TOKENS(CONSTANT(0), CONSTANT(1), CONSTANT(2), BOTH, BOTH), TOKENS(EVERYTHING)                                         \
+    }
+
 static const struct {
     const char *what;
     size_t classes, attributes, constants;
+    uint16_t loose;
     Axioms axioms;
     Tokens views[MOST];
     const char *rows, *order;
 } BY_AXIOM[] = {
-    {"the selections", 2, 1, 1, AXIOMS(SINGLE(PERSON, WEARS), RELATES(WEARS, PERSON, STRAP)), SELECTIONS,
+    {"the selections", 2, 1, 1, 0, AXIOMS(SINGLE(PERSON, WEARS), RELATES(WEARS, PERSON, STRAP)), SELECTIONS,
      "06 016 0268 036 02468 0124568 06 067 0268", "3 5 1 4 28 7 06"},
-    {"the selections where a strap wears something", 2, 1, 1,
+    {"the selections where a strap wears something", 2, 1, 1, 0,
      AXIOMS(SINGLE(PERSON, WEARS), RELATES(WEARS, PERSON, STRAP), NEEDS(STRAP, WEARS)), SELECTIONS,
      "06 016 0268 023678 02468 0124568 06 02678 0268", "3 5 1 4 7 28 06"},
-    {"the selections without axioms", 2, 1, 1, NO_AXIOMS, SELECTIONS,
+    {"the selections without axioms", 2, 1, 1, 0, NO_AXIOMS, SELECTIONS,
      "06 016 0268 036 046 01456 06 067 0268", "28 3 5 1 4 7 06"},
-    {"a domain that a needed value forces", 3, 1, 0, AXIOMS(NEEDS(A, P), RELATES(P, B, C)),
+    {"a domain that a needed value forces", 3, 1, 0, 0, AXIOMS(NEEDS(A, P), RELATES(P, B, C)),
      {TOKENS(CLASS(B)), TOKENS(CLASS(A)), TOKENS(EMPTY, ANY_FORWARD(P), REACHED), TOKENS(EMPTY, CLASS(C), FORWARD(P), REACHED),
       TOKENS(EVERYTHING), TOKENS(CLASS(C)), TOKENS(EMPTY, CLASS(A), BACKWARD(P), REACHED)},
      "04 01234 0234 0234 4 45 456", "1 23 0 6 5 4"},
-    {"up to six steps", 2, 1, 0, AXIOMS(NEEDS(A, P), TYPING(A, P, A)),
+    {"up to six steps", 2, 1, 0, 0, AXIOMS(NEEDS(A, P), TYPING(A, P, A)),
      {TOKENS(EMPTY, ANY_FORWARD(P), REACHED),
       TOKENS(EMPTY, ANY_FORWARD(P), ANY_FORWARD(P), ANY_FORWARD(P), ANY_FORWARD(P), ANY_FORWARD(P), ANY_FORWARD(P), REACHED),
       TOKENS(CLASS(A)), TOKENS(EMPTY, ANY_FORWARD(P), ANY_FORWARD(P), ANY_FORWARD(P), REACHED),
       TOKENS(EMPTY, ANY_FORWARD(P), ANY_FORWARD(P), ANY_FORWARD(P), ANY_FORWARD(P), ANY_FORWARD(P), CLASS(B), FORWARD(P),
              REACHED)},
      "0 013 0123 03 0134", "2 4 1 3 0"},
-    {"two constants at once", 1, 0, 2, NO_AXIOMS,
+    {"two constants at once", 1, 0, 2, 0, NO_AXIOMS,
      {TOKENS(CLASS(A)), TOKENS(CONSTANT(0), CONSTANT(1), BOTH), TOKENS(EVERYTHING), TOKENS(CONSTANT(0)),
       TOKENS(CONSTANT(1), CONSTANT(0), BOTH, CLASS(A), BOTH), TOKENS(CONSTANT(1))},
      "02 012345 2 23 012345 25", "14 0 3 5 2"},
-    {"at most one value", 3, 1, 0, AXIOMS(SINGLE(A, P)), VALUES, "03 0123 23 3", "1 0 2 3"},
-    {"any number of values", 3, 1, 0, NO_AXIOMS, VALUES, "03 123 23 3", "0 1 2 3"},
-    {"there and back", 2, 1, 0, AXIOMS(NEEDS(A, P)),
+    {"at most one value", 3, 1, 0, 0, AXIOMS(SINGLE(A, P)), VALUES, "03 0123 23 3", "1 0 2 3"},
+    {"any number of values", 3, 1, 0, 0, NO_AXIOMS, VALUES, "03 123 23 3", "0 1 2 3"},
+    {"there and back", 2, 1, 0, 0, AXIOMS(NEEDS(A, P)),
      {TOKENS(EMPTY, ANY_FORWARD(P), REACHED), TOKENS(EMPTY, ANY_FORWARD(P), CLASS(B), BACKWARD(P), REACHED),
       TOKENS(EMPTY, ANY_FORWARD(P), CLASS(A), BACKWARD(P), REACHED), TOKENS(CLASS(A))},
      "0 01 02 023", "1 3 2 0"},
-    {"the patients", 9, 5, 0,
+    {"the patients", 9, 5, 0, 0,
      AXIOMS(SUBCLASS(PATIENT, HUMAN), TYPING(PATIENT, TAKES, DRUG), TYPING(PATIENT, CONSULTS, DOCTOR),
             TYPING(PATIENT, SUFFERS, DISEASE), NEEDS(PATIENT, SUFFERS), TYPING(HUMAN, NAME, STRING), NEEDS(HUMAN, NAME),
             SINGLE(HUMAN, NAME), TYPING(DOCTOR, SKILLED_IN, DISEASE), RELATES(SKILLED_IN, HUMAN, TOPIC)),
@@ -416,7 +425,7 @@ static const struct {
              CLASS(DOCTOR), BACKWARD(SKILLED_IN), COMMON, BOTH),
       TOKENS(CLASS(PATIENT)), TOKENS(CLASS(HUMAN))},
      "023 0123 23 3", "1 0 2 3"},
-    {"the rowing club", 5, 4, 0,
+    {"the rowing club", 5, 4, 0, 0,
      AXIOMS(SUBCLASS(ROWER, MEMBER), NEEDS(ROWER, CLUB_WEARS), SINGLE(MEMBER, CLUB_WEARS),
             RELATES(CLUB_WEARS, MEMBER, CLUB_STRAP), NEEDS(CLUB_STRAP, RECORDS), RELATES(RECORDS, CLUB_STRAP, BEAT),
             NEEDS(BEAT, DURING), SINGLE(BEAT, DURING), RELATES(DURING, BEAT, SESSION), RELATES(ATTENDS, MEMBER, SESSION)),
@@ -426,20 +435,36 @@ static const struct {
       TOKENS(EMPTY, CLASS(CLUB_STRAP), FORWARD(CLUB_WEARS), REACHED),
       TOKENS(CLASS(ROWER), EMPTY, CLASS(SESSION), FORWARD(ATTENDS), REACHED, BOTH), TOKENS(CLASS(ROWER))},
      "0 012 012 01234 0124", "3 4 12 0"},
-    {"a circle through needed values", 3, 2, 0, AXIOMS(NEEDS(A, P), RELATES(P, B, C), NEEDS(B, Q), RELATES(Q, A, C)),
+    {"a circle through needed values", 3, 2, 0, 0, AXIOMS(NEEDS(A, P), RELATES(P, B, C), NEEDS(B, Q), RELATES(Q, A, C)),
      {TOKENS(CLASS(C)), TOKENS(EMPTY, ANY_FORWARD(P), REACHED), TOKENS(CLASS(A), CLASS(B), BOTH),
       TOKENS(EMPTY, CLASS(C), FORWARD(Q), REACHED), TOKENS(CLASS(B)), TOKENS(CLASS(C), CLASS(A), BOTH)},
      "0 1234 1234 1234 1234 012345", "5 0 1234"},
-    {"two constants as the one value", 1, 1, 2, AXIOMS(SINGLE(A, P)), CONSTANT_VALUES, "03 0123 0123 3", "12 0 3"},
-    {"two constants as values", 1, 1, 2, NO_AXIOMS, CONSTANT_VALUES, "03 013 0123 3", "2 1 0 3"},
-    {"nothing declared", 0, 0, 0, NO_AXIOMS, {TOKENS(EMPTY, REACHED), TOKENS(EVERYTHING), TOKENS(EMPTY, EMPTY, COMMON)},
+    {"two constants as the one value", 1, 1, 2, 0, AXIOMS(SINGLE(A, P)), CONSTANT_VALUES, "03 0123 0123 3", "12 0 3"},
+    {"two constants as values", 1, 1, 2, 0, NO_AXIOMS, CONSTANT_VALUES, "03 013 0123 3", "2 1 0 3"},
+    {"two constants as the one value, the first loose", 1, 1, 2, 1, AXIOMS(SINGLE(A, P)), CONSTANT_VALUES, "03 013 23 3",
+     "1 0 2 3"},
+    {"two constants as values, both loose", 1, 1, 2, 3, NO_AXIOMS, CONSTANT_VALUES, "03 013 23 3", "1 0 2 3"},
+    {"several constants at once", 0, 0, 3, 0, NO_AXIOMS, CONSTANTS, "07 17 27 01234567 01234567 01234567 01234567 7",
+     "3456 0 1 2 7"},
+    {"several constants, the first loose", 0, 0, 3, 1, NO_AXIOMS, CONSTANTS, "07 17 27 0137 01234567 0257 01234567 7",
+     "46 3 1 5 0 2 7"},
+    {"several constants, the second loose", 0, 0, 3, 2, NO_AXIOMS, CONSTANTS, "07 17 27 0137 1247 01234567 01234567 7",
+     "56 3 0 4 1 2 7"},
+    {"several constants, the last loose", 0, 0, 3, 4, NO_AXIOMS, CONSTANTS, "07 17 27 01234567 1247 0257 01234567 7",
+     "36 4 1 5 0 2 7"},
+    {"several constants, all but the last loose", 0, 0, 3, 3, NO_AXIOMS, CONSTANTS, "07 17 27 0137 1247 0257 01234567 7",
+     "6 3 4 1 5 0 2 7"},
+    {"several constants, all loose", 0, 0, 3, 7, NO_AXIOMS, CONSTANTS, "07 17 27 0137 1247 0257 01234567 7",
+     "6 3 4 1 5 0 2 7"},
+    {"nothing declared", 0, 0, 0, 0, NO_AXIOMS, {TOKENS(EMPTY, REACHED), TOKENS(EVERYTHING), TOKENS(EMPTY, EMPTY, COMMON)},
      "012 012 012", "012"},
 };
 
-static Record schema_of(size_t classes, size_t attributes, size_t constants, Axioms axioms)
+static Record schema_of(size_t classes, size_t attributes, size_t constants, uint16_t loose, Axioms axioms)
 {
     static uint16_t words[BIKUVOA_MAX_SCHEMA_WORDS];
     bikuvoa_schema schema = bikuvoa_start_schema(words, BIKUVOA_MAX_SCHEMA_WORDS, classes, attributes, constants);
+    words[BIKUVOA_AT_LOOSE] = loose;
     for (size_t i = 0; i < axioms.n; i++) bikuvoa_axiom(&schema, axioms.at[i].left, axioms.at[i].right);
     return (Record){schema.length, words};
 }
@@ -451,7 +476,8 @@ static void axioms_by_hand(void)
         Record views[MOST];
         size_t n = 0;
         for (; n < MOST && tokens[n].n > 0; n++) views[n] = concept_of(tokens[n]);
-        answers(schema_of(BY_AXIOM[row].classes, BY_AXIOM[row].attributes, BY_AXIOM[row].constants, BY_AXIOM[row].axioms),
+        answers(schema_of(BY_AXIOM[row].classes, BY_AXIOM[row].attributes, BY_AXIOM[row].constants, BY_AXIOM[row].loose,
+                          BY_AXIOM[row].axioms),
                 views_of(views, n), BY_AXIOM[row].rows, BY_AXIOM[row].order, BY_AXIOM[row].what, row);
     }
 }
@@ -487,7 +513,12 @@ static void largest(void)
 
 /* Refusals. In the schema one class is declared. */
 
-static Record one_class, everything, bad_schemas[2];
+static Record one_class, everything;
+
+/* A faulty schema for each refusal, in the order of the checks. */
+enum { SCHEMA_FAULTS = 3 };
+static const int SCHEMA_NUMBER[SCHEMA_FAULTS] = {1, 14, 2};
+static Record bad_schemas[SCHEMA_FAULTS];
 
 /* A faulty view for each of 3 to 6, and more for 3 and 6: without words, a word too long and too short, a step too many. */
 enum { FAULTS = 8 };
@@ -496,11 +527,13 @@ static Record faulty[FAULTS];
 
 static void make_faults(void)
 {
-    static uint16_t false_steps[] = {1, 1, 2, 0}, too_long[] = {1, 0, 2, 0, 0}, kind_6[] = {1, 1, 0, 1, 6 * 256, 0};
+    static uint16_t false_steps[] = {1, 1, 2, 0}, too_long[] = {1, 0, 2, 0, 0}, kind_6[] = {1, 1, 0, 1, 0, 6 * 256, 0};
+    static uint16_t loose[] = {1, 1, 0, 0, 1};
     one_class = declaring(1, 1, 0);
     everything = concept_of((Tokens)TOKENS(EVERYTHING));
     bad_schemas[0] = (Record){one_class.words - 1, one_class.at};
-    bad_schemas[1] = (Record){6, kind_6};
+    bad_schemas[1] = (Record){5, loose};
+    bad_schemas[2] = (Record){7, kind_6};
     faulty[0] = concept_of((Tokens){0, NULL});
     faulty[1] = concept_of((Tokens)TOKENS(CLASS(1)));
     faulty[2] = concept_of((Tokens)TOKENS(EVERYTHING, EVERYTHING));
@@ -638,12 +671,13 @@ static void faulty_views(void)
 
 static void faulty_schemas(void)
 {
-    for (int s = 0; s < 2; s++) {
-        refused(bad_schemas[s], alike(2), s + 1, "a faulty schema", s);
-        refused(bad_schemas[s], alike(MOST + 1), s + 1, "a faulty schema with 17 views", s);
-        refused(bad_schemas[s], (Record){0, NULL}, s + 1, "a faulty schema with an empty record", s);
+    for (int s = 0; s < SCHEMA_FAULTS; s++) {
+        int number = SCHEMA_NUMBER[s];
+        refused(bad_schemas[s], alike(2), number, "a faulty schema", s);
+        refused(bad_schemas[s], alike(MOST + 1), number, "a faulty schema with 17 views", s);
+        refused(bad_schemas[s], (Record){0, NULL}, number, "a faulty schema with an empty record", s);
         for (int f = 0; f < FAULTS; f++)
-            refused(bad_schemas[s], with(2, 0, faulty[f], 1, everything), s + 1, "a faulty schema with a faulty view", f);
+            refused(bad_schemas[s], with(2, 0, faulty[f], 1, everything), number, "a faulty schema with a faulty view", f);
     }
     refused((Record){0, NULL}, alike(2), BIKUVOA_BAD_SCHEMA_SHAPE, "no schema", 0);
 }

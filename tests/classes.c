@@ -1,6 +1,6 @@
 /* Every class: what a query, each kind of axiom and a view make of each of the 24 classes beside each of the others, with the
  * verdicts by hand. Not proved; it prints how many checks passed. */
-#include "records.h"
+#include "verdict.h"
 
 enum { CLASSES = BIKUVOA_MAX_CLASSES };
 enum { P };
@@ -20,20 +20,6 @@ static void make_records(void)
     to_any = concept_of((Tokens)TOKENS(EMPTY, EVERYTHING, FORWARD(P), REACHED));
     to_both = concept_of((Tokens)TOKENS(EMPTY, CLASS(0), CLASS(23), BOTH, FORWARD(P), REACHED));
     no_axioms = declaring(CLASSES, 1, 0);
-}
-
-/* Decide and holds say the same, and an open verdict comes with a counterexample. */
-static void verdict(Record schema, Record query, Record view, int held, const char *what, int row)
-{
-    static uint16_t lent[BIKUVOA_DECIDE_WORDS];
-    uint64_t answer = 97, objects = 98, object = 99, found = 0;
-    check(bikuvoa_holds(schema.at, schema.words, query.at, query.words, view.at, view.words, &answer) == 0
-              && answer == (uint64_t)held, what, row);
-    check(bikuvoa_decide(schema.at, schema.words, query.at, query.words, view.at, view.words, lent, BIKUVOA_DECIDE_WORDS,
-                         &objects, &object) == 0 && (objects == 0) == held, what, row);
-    if (!held)
-        check(bikuvoa_counterexample(schema.at, schema.words, query.at, query.words, view.at, view.words, lent,
-                                     bikuvoa_state_length(lent), &found) == 0 && 0 < found && found <= object + 1, what, row);
 }
 
 static bikuvoa_schema start(uint16_t *words)

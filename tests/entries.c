@@ -3,13 +3,9 @@
  * checked one at a time, null pointers, states and concepts at the limits, and the deepest concepts on the documented stack.
  * What a catalogue answers is in catalogue.c. Not proved; it prints how many checks passed. */
 #define _DEFAULT_SOURCE
-#include "records.h"
+#include "calls.h"
 #include <pthread.h>
 #include <sys/mman.h>
-
-#define UNTOUCHED 0xBEEF
-#define UNTOUCHED_SET UINT32_C(0xBEEFBEEF)
-#define UNTOUCHED_OUT UINT64_C(0xBEEFBEEFBEEFBEEF)
 
 /* The records. */
 
@@ -69,7 +65,7 @@ static Record catalogue_of(Record first, Record second)
 static Record x, x_needs, no_axioms, one_attribute, all_declared, all_mentioned, s, no_objects, everything, person, both_views;
 
 /* A faulty record for each refusal of a schema, a concept and a state, and one with that of a catalogue. */
-static Record bad_schemas[2], bad_concepts[4], bad_states[4], bad_catalogue;
+static Record bad_schemas[3], bad_concepts[4], bad_states[4], bad_catalogue;
 
 static void make_records(void)
 {
@@ -90,9 +86,12 @@ static void make_records(void)
 static void make_bad_records(void)
 {
     bad_schemas[0] = (Record){x.words - 1, x.at};
+    bikuvoa_schema loose = bikuvoa_start_schema(take(BIKUVOA_SCHEMA_WORDS(0)), BIKUVOA_SCHEMA_WORDS(0), 2, 1, 1);
+    bikuvoa_loose(&loose, 1);
+    bad_schemas[1] = (Record){loose.length, loose.words};
     bikuvoa_schema kind_6 = bikuvoa_start_schema(take(BIKUVOA_SCHEMA_WORDS(1)), BIKUVOA_SCHEMA_WORDS(1), 2, 1, 1);
     bikuvoa_axiom(&kind_6, (BIKUVOA_RELATES + 1) * BIKUVOA_BYTE_PART, 0);
-    bad_schemas[1] = (Record){kind_6.length, kind_6.words};
+    bad_schemas[2] = (Record){kind_6.length, kind_6.words};
 
     bikuvoa_concept steps = bikuvoa_start_concept(take(BIKUVOA_CONCEPT_WORDS(1)), BIKUVOA_CONCEPT_WORDS(1));
     bikuvoa_everything(&steps);
@@ -117,101 +116,6 @@ static void make_bad_records(void)
     bad_states[3] = (Record){unnamed.length, unnamed.words};
 
     bad_catalogue = (Record){both_views.words - 1, both_views.at};
-}
-
-/* A call of any entry, by the record at each place, or the number of lent words, or the attribute. The lent words of the
- * catalogue are its rows; those for the order have a place of their own. */
-
-enum { SCHEMA, QUERY, VIEW, STATE, LENT, ATTRIBUTE, VIEWS, ORDER, PLACES };
-enum {
-    CHECK_CONCEPT, CHECK_VIEW, SELECT, LEGAL, COUNTEREXAMPLE, LINKS_BY_FIRST, LINKS_BY_SECOND, DECIDE, HOLDS, CATALOGUE, ENTRIES
-};
-static const int HAS[ENTRIES][PLACES] = {
-    {1, 1, 0, 0, 0, 0, 0, 0}, {1, 0, 1, 0, 0, 0, 0, 0}, {1, 1, 0, 1, 1, 0, 0, 0}, {1, 0, 0, 1, 0, 0, 0, 0},
-    {1, 1, 1, 1, 0, 0, 0, 0}, {1, 1, 0, 1, 0, 1, 0, 0}, {1, 1, 0, 1, 0, 1, 0, 0}, {1, 1, 1, 0, 1, 0, 0, 0},
-    {1, 1, 1, 0, 0, 0, 0, 0}, {1, 0, 0, 0, 1, 0, 1, 1},
-};
-
-#define ON(...) ((const Record[PLACES]){__VA_ARGS__})
-#define NONE {0, NULL}
-#define WORDS(n) {n, NULL}
-#define NUMBER(n) {n, NULL}
-
-/* The sets that the checks write, among words that they must not touch. */
-enum { CLASS_SET = 1, ATTRIBUTE_SET = 3, SETS = 5 };
-static uint32_t sets[SETS];
-
-/* The order that the catalogue writes. */
-static uint16_t order[BIKUVOA_MAX_VIEWS];
-
-static int call(int entry, const Record *r, uint16_t *words, uint64_t *outs)
-{
-    Record schema = r[SCHEMA], query = r[QUERY], view = r[VIEW], state = r[STATE], views = r[VIEWS];
-    uint16_t attribute = (uint16_t)r[ATTRIBUTE].words;
-    switch (entry) {
-    case CHECK_CONCEPT:
-        return bikuvoa_check_concept(schema.at, schema.words, query.at, query.words, &sets[CLASS_SET], &sets[ATTRIBUTE_SET],
-                                     outs);
-    case CHECK_VIEW:
-        return bikuvoa_check_view(schema.at, schema.words, view.at, view.words, &sets[CLASS_SET], &sets[ATTRIBUTE_SET], outs);
-    case SELECT:
-        return bikuvoa_select(schema.at, schema.words, query.at, query.words, state.at, state.words, words, r[LENT].words,
-                              outs);
-    case LEGAL:
-        return bikuvoa_legal(schema.at, schema.words, state.at, state.words, outs);
-    case COUNTEREXAMPLE:
-        return bikuvoa_counterexample(schema.at, schema.words, query.at, query.words, view.at, view.words, state.at,
-                                      state.words, outs);
-    case LINKS_BY_FIRST:
-        return bikuvoa_links_by_first(schema.at, schema.words, query.at, query.words, state.at, state.words, attribute, outs);
-    case LINKS_BY_SECOND:
-        return bikuvoa_links_by_second(schema.at, schema.words, query.at, query.words, state.at, state.words, attribute, outs);
-    case DECIDE:
-        return bikuvoa_decide(schema.at, schema.words, query.at, query.words, view.at, view.words, words, r[LENT].words, outs,
-                              outs + 1);
-    case HOLDS:
-        return bikuvoa_holds(schema.at, schema.words, query.at, query.words, view.at, view.words, outs);
-    default:
-        return bikuvoa_catalogue(schema.at, schema.words, views.at, views.words, words, r[LENT].words,
-                                 r[ORDER].words ? order : NULL, r[ORDER].words, outs);
-    }
-}
-
-static uint16_t lent[BIKUVOA_DECIDE_WORDS + 1];
-
-static void clear_lent(void)
-{
-    for (int i = 0; i <= BIKUVOA_DECIDE_WORDS; i++) lent[i] = UNTOUCHED;
-}
-
-static int untouched_from(size_t from)
-{
-    while (from <= BIKUVOA_DECIDE_WORDS && lent[from] == UNTOUCHED) from++;
-    return from == BIKUVOA_DECIDE_WORDS + 1;
-}
-
-static void clear_order(void)
-{
-    for (int i = 0; i < BIKUVOA_MAX_VIEWS; i++) order[i] = UNTOUCHED;
-}
-
-static int order_untouched(void)
-{
-    int i = 0;
-    while (i < BIKUVOA_MAX_VIEWS && order[i] == UNTOUCHED) i++;
-    return i == BIKUVOA_MAX_VIEWS;
-}
-
-static void clear_sets(void)
-{
-    for (int i = 0; i < SETS; i++) sets[i] = UNTOUCHED_SET;
-}
-
-static int sets_are(uint32_t classes, uint32_t attributes)
-{
-    for (int i = 0; i < SETS; i += 2)
-        if (sets[i] != UNTOUCHED_SET) return 0;
-    return sets[CLASS_SET] == classes && sets[ATTRIBUTE_SET] == attributes;
 }
 
 /* Both counts of links are that number, or both calls are refused and alter nothing. */
@@ -331,10 +235,27 @@ static void yes_or_no(void)
 
 /* Refusals. */
 
-static const int FIRST_NUMBER[PLACES] = {BIKUVOA_BAD_SCHEMA_SHAPE, BIKUVOA_BAD_CONCEPT_SHAPE, BIKUVOA_BAD_CONCEPT_SHAPE,
-                                         BIKUVOA_BAD_STATE_SHAPE, BIKUVOA_FEW_LENT_WORDS, BIKUVOA_BAD_ATTRIBUTE,
-                                         BIKUVOA_BAD_CATALOGUE, BIKUVOA_FEW_LENT_WORDS};
-static const int NUMBERS[PLACES] = {2, 4, 4, 4, 1, 1, 1, 1};
+/* The places that each entry has. */
+static const int HAS[ENTRIES][PLACES] = {
+    {1, 1, 0, 0, 0, 0, 0, 0}, {1, 0, 1, 0, 0, 0, 0, 0}, {1, 1, 0, 1, 1, 0, 0, 0}, {1, 0, 0, 1, 0, 0, 0, 0},
+    {1, 1, 1, 1, 0, 0, 0, 0}, {1, 1, 0, 1, 0, 1, 0, 0}, {1, 1, 0, 1, 0, 1, 0, 0}, {1, 1, 1, 0, 1, 0, 0, 0},
+    {1, 1, 1, 0, 0, 0, 0, 0}, {1, 0, 0, 0, 1, 0, 1, 1},
+};
+
+/* What each place is refused by, in the order of the checks. */
+enum { MOST_REFUSALS = 4 };
+static const int REFUSALS[PLACES][MOST_REFUSALS] = {
+    {BIKUVOA_BAD_SCHEMA_SHAPE, BIKUVOA_BAD_LOOSE, BIKUVOA_BAD_AXIOM},
+    {BIKUVOA_BAD_CONCEPT_SHAPE, BIKUVOA_BAD_TOKEN, BIKUVOA_BAD_PILE, BIKUVOA_BAD_STEPS},
+    {BIKUVOA_BAD_CONCEPT_SHAPE, BIKUVOA_BAD_TOKEN, BIKUVOA_BAD_PILE, BIKUVOA_BAD_STEPS},
+    {BIKUVOA_BAD_STATE_SHAPE, BIKUVOA_BAD_FACT, BIKUVOA_BAD_ORDER, BIKUVOA_BAD_CONSTANTS},
+    {BIKUVOA_FEW_LENT_WORDS}, {BIKUVOA_BAD_ATTRIBUTE}, {BIKUVOA_BAD_CATALOGUE}, {BIKUVOA_FEW_LENT_WORDS},
+};
+
+static int has_refusal(int p, int n)
+{
+    return n < MOST_REFUSALS && REFUSALS[p][n] != 0;
+}
 
 /* When each place is looked at: the views before any lent words. */
 static const int TURN[PLACES] = {0, 1, 2, 3, 5, 7, 4, 6};
@@ -364,14 +285,14 @@ static void refusals(void)
     clear_order();
     for (int entry = 0; entry < ENTRIES; entry++)
         for (int p = 0; p < PLACES; p++)
-            for (int n = 0; HAS[entry][p] && n < NUMBERS[p]; n++)
+            for (int n = 0; HAS[entry][p] && has_refusal(p, n); n++)
                 for (int later = 0; later < 2; later++) {
                     Record r[PLACES];
                     for (int q = 0; q < PLACES; q++)
                         r[q] = record_at(entry, q, q == p || (later && TURN[q] > TURN[p]), q == p ? n : 0);
                     uint64_t outs[2] = {UNTOUCHED_OUT, ~UNTOUCHED_OUT};
                     int row = 1000 * entry + 100 * p + 10 * n + later;
-                    check(call(entry, r, lent, outs) == FIRST_NUMBER[p] + n, "refusal", row);
+                    check(call(entry, r, lent, outs) == REFUSALS[p][n], "refusal", row);
                     check(outs[0] == UNTOUCHED_OUT && outs[1] == ~UNTOUCHED_OUT, "an out value of a refused call", row);
                     check(sets_are(UNTOUCHED_SET, UNTOUCHED_SET), "sets of a refused call", row);
                     check(untouched_from(0) && order_untouched(), "lent words of a refused call", row);
@@ -392,7 +313,7 @@ static void nulls(void)
             Record r[PLACES];
             for (int q = 0; q < PLACES; q++) r[q] = record_at(entry, q, 0, 0);
             r[p] = (Record)NONE;
-            check(call(entry, r, p == LENT ? NULL : lent, outs) == FIRST_NUMBER[p], "null", 10 * entry + p);
+            check(call(entry, r, p == LENT ? NULL : lent, outs) == REFUSALS[p][0], "null", 10 * entry + p);
             check(outs[0] == UNTOUCHED_OUT && outs[1] == ~UNTOUCHED_OUT && untouched_from(0) && order_untouched()
                       && sets_are(UNTOUCHED_SET, UNTOUCHED_SET), "null alters nothing", 10 * entry + p);
         }
@@ -425,18 +346,18 @@ static void checks(void)
     check(bikuvoa_view_refusal(x.at, x.words, person.at, person.words) == BIKUVOA_ACCEPTED, "a view", 0);
     check(bikuvoa_query_refusal(x.at, x.words, NULL, 0) == BIKUVOA_BAD_CONCEPT_SHAPE, "no query", 0);
     check(bikuvoa_view_refusal(x.at, x.words, NULL, 0) == BIKUVOA_BAD_CONCEPT_SHAPE, "no view", 0);
-    for (int n = 0; n < NUMBERS[QUERY]; n++) {
+    for (int n = 0; has_refusal(QUERY, n); n++) {
         Record bad = bad_concepts[n];
-        check(bikuvoa_query_refusal(x.at, x.words, bad.at, bad.words) == FIRST_NUMBER[QUERY] + n, "a faulty query", n);
-        check(bikuvoa_view_refusal(x.at, x.words, bad.at, bad.words) == FIRST_NUMBER[VIEW] + n, "a faulty view", n);
+        check(bikuvoa_query_refusal(x.at, x.words, bad.at, bad.words) == REFUSALS[QUERY][n], "a faulty query", n);
+        check(bikuvoa_view_refusal(x.at, x.words, bad.at, bad.words) == REFUSALS[VIEW][n], "a faulty view", n);
     }
     check(bikuvoa_schema_refusal(x.at, x.words) == BIKUVOA_ACCEPTED, "a schema", 0);
     check(bikuvoa_schema_refusal(NULL, 0) == BIKUVOA_BAD_SCHEMA_SHAPE, "no schema", 0);
-    for (int n = 0; n < NUMBERS[SCHEMA]; n++) {
+    for (int n = 0; has_refusal(SCHEMA, n); n++) {
         Record bad = bad_schemas[n];
-        check(bikuvoa_schema_refusal(bad.at, bad.words) == FIRST_NUMBER[SCHEMA] + n, "a faulty schema", n);
-        check(bikuvoa_query_refusal(bad.at, bad.words, person.at, person.words) == FIRST_NUMBER[SCHEMA] + n, "its query", n);
-        check(bikuvoa_view_refusal(bad.at, bad.words, person.at, person.words) == FIRST_NUMBER[SCHEMA] + n, "its view", n);
+        check(bikuvoa_schema_refusal(bad.at, bad.words) == REFUSALS[SCHEMA][n], "a faulty schema", n);
+        check(bikuvoa_query_refusal(bad.at, bad.words, person.at, person.words) == REFUSALS[SCHEMA][n], "its query", n);
+        check(bikuvoa_view_refusal(bad.at, bad.words, person.at, person.words) == REFUSALS[SCHEMA][n], "its view", n);
     }
 }
 
@@ -805,21 +726,23 @@ static void faulty_tokens(void)
         refused(all_declared, concept_of(FAULTY[row]), BIKUVOA_BAD_TOKEN, "a faulty token", row);
 }
 
-/* Every choice among six faults, bit n - 1 for refusal n: the lowest is returned. */
+/* Every choice among seven faults, bit i for the i-th of the checks: the first is returned. */
 static void several_faults(void)
 {
-    for (int faults = 1; faults < 64; faults++) {
+    static const int IN_ORDER[] = {1, 14, 2, 3, 4, 5, 6};
+    for (int faults = 1; faults < 128; faults++) {
         uint16_t schema_words[BIKUVOA_SCHEMA_WORDS(1)], words[BIKUVOA_CONCEPT_WORDS(2)];
         bikuvoa_schema schema = bikuvoa_start_schema(schema_words, BIKUVOA_SCHEMA_WORDS(1), 2, 0, 0);
         bikuvoa_concept c = bikuvoa_start_concept(words, BIKUVOA_CONCEPT_WORDS(2));
-        int lowest = 1;
-        while (!(faults >> (lowest - 1) & 1)) lowest++;
-        bikuvoa_subclass(&schema, 0, faults & 2 ? 2 : 1);
-        if (faults & 16) bikuvoa_both(&c);
-        bikuvoa_class(&c, faults & 8 ? 2 : 1);
-        if (faults & 32) words[BIKUVOA_AT_STEPS] = 1;
-        refused((Record){schema.length - (faults & 1), schema_words}, (Record){c.length - (faults & 4 ? 1 : 0), words}, lowest,
-                "the first of several faults", faults);
+        int first = 0;
+        while (!(faults >> first & 1)) first++;
+        if (faults & 2) bikuvoa_loose(&schema, 0);
+        bikuvoa_subclass(&schema, 0, faults & 4 ? 2 : 1);
+        if (faults & 32) bikuvoa_both(&c);
+        bikuvoa_class(&c, faults & 16 ? 2 : 1);
+        if (faults & 64) words[BIKUVOA_AT_STEPS] = 1;
+        refused((Record){schema.length - (faults & 1), schema_words}, (Record){c.length - (faults & 8 ? 1 : 0), words},
+                IN_ORDER[first], "the first of several faults", faults);
     }
 }
 

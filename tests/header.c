@@ -11,14 +11,15 @@
 static void numbers(void)
 {
     check(BIKUVOA_DECIDE_WORDS == 30762, "the least lent words", 0);
-    check(BIKUVOA_MAX_SCHEMA_WORDS == 196 && BIKUVOA_MAX_CONCEPT_WORDS == 130, "the largest schema and concept", 0);
+    check(BIKUVOA_MAX_SCHEMA_WORDS == 197 && BIKUVOA_MAX_CONCEPT_WORDS == 130, "the largest schema and concept", 0);
     check(BIKUVOA_MAX_FACTS == BIKUVOA_MAX_OBJECTS * (BIKUVOA_MAX_CLASSES + BIKUVOA_MAX_ATTRIBUTES) + BIKUVOA_QUERY_STEPS
                                    + BIKUVOA_MAX_CONSTANTS, "the most facts", 0);
     check(BIKUVOA_ATTRIBUTE_KINDS == 24 && BIKUVOA_CONSTANT_KINDS == 32 && BIKUVOA_FACT_KINDS == 36, "the kinds of facts", 0);
     check(BIKUVOA_MAX_OBJECTS <= BIKUVOA_OBJECT_PART && BIKUVOA_MAX_CLASSES <= BIKUVOA_BYTE_PART, "parts of words", 0);
     check(BIKUVOA_MAX_CLASSES <= 32 && BIKUVOA_MAX_ATTRIBUTES <= 32, "a bit of a set for each", 0);
+    check(BIKUVOA_AT_LOOSE == 4 && BIKUVOA_SCHEMA_SIZES == 5 && BIKUVOA_MAX_CONSTANTS <= 16, "a bit of the loose word", 0);
     check(BIKUVOA_MAX_VIEWS == 16 && BIKUVOA_MAX_CATALOGUE_WORDS == 2097, "the largest catalogue", 0);
-    check(BIKUVOA_RELATES == 5 && BIKUVOA_COMMON == 9 && BIKUVOA_BAD_CATALOGUE == 13, "the last of each list", 0);
+    check(BIKUVOA_RELATES == 5 && BIKUVOA_COMMON == 9 && BIKUVOA_BAD_LOOSE == 14, "the last of each list", 0);
     check(BIKUVOA_VERSION >= 100, "the version", 0);
 }
 
@@ -26,10 +27,10 @@ static void texts(void)
 {
     static const char *const BEGINS[] = {"accepted", "schema: ", "schema: ", "query or view: ", "query or view: ",
                                          "query or view: ", "query or view: ", "state: ", "state: ", "state: ", "state: ",
-                                         "lent words: ", "attribute: ", "catalogue: "};
+                                         "lent words: ", "attribute: ", "catalogue: ", "schema: "};
     const char *unknown = bikuvoa_refusal_text(65535);
     uint16_t r, q;
-    for (r = 0; r <= BIKUVOA_BAD_CATALOGUE; r++) {
+    for (r = 0; r <= BIKUVOA_BAD_LOOSE; r++) {
         check(strncmp(bikuvoa_refusal_text(r), BEGINS[r], strlen(BEGINS[r])) == 0, "the text's record", r);
         check(strcmp(bikuvoa_refusal_text(r), unknown) != 0, "a refusal's text", r);
         for (q = 0; q < r; q++) check(strcmp(bikuvoa_refusal_text(r), bikuvoa_refusal_text(q)) != 0, "a text of its own", r);
@@ -43,7 +44,7 @@ static void verdicts(void)
     uint16_t r;
     check(BIKUVOA_HELD != 0 && BIKUVOA_OPEN != 0 && BIKUVOA_REFUSED != 0, "no verdict is 0", 0);
     check(bikuvoa_verdict_of(0, &objects) == BIKUVOA_HELD, "held", 0);
-    for (r = BIKUVOA_BAD_SCHEMA_SHAPE; r <= BIKUVOA_BAD_CATALOGUE; r++)
+    for (r = BIKUVOA_BAD_SCHEMA_SHAPE; r <= BIKUVOA_BAD_LOOSE; r++)
         check(bikuvoa_verdict_of(r, &objects) == BIKUVOA_REFUSED, "refused", r);
     for (objects = 1; objects <= BIKUVOA_MAX_OBJECTS; objects++)
         if (bikuvoa_verdict_of(0, &objects) != BIKUVOA_OPEN) break;
@@ -99,6 +100,21 @@ static bikuvoa_concept recorded(uint16_t *words, size_t room)
     return c;
 }
 
+/* Axioms of every kind, with constants marked as loose before them, among them and after them, one of them twice. */
+static bikuvoa_schema axioms(uint16_t *words, size_t room)
+{
+    bikuvoa_schema s = bikuvoa_start_schema(words, room, 3, 2, 4);
+    bikuvoa_loose(&s, 3);
+    bikuvoa_subclass(&s, 0, 1);
+    bikuvoa_typing(&s, 1, 1, 2);
+    bikuvoa_loose(&s, 1);
+    bikuvoa_necessary(&s, 2, 1);
+    bikuvoa_single(&s, 2, 0);
+    bikuvoa_relates(&s, 1, 2, 1);
+    bikuvoa_loose(&s, 3);
+    return s;
+}
+
 /* Facts in no order, and two of them twice. */
 static bikuvoa_state facts(uint16_t *words, size_t room)
 {
@@ -126,7 +142,7 @@ static bikuvoa_views both_views(uint16_t *words, size_t room)
     return v;
 }
 
-enum { CLUB, ROWERS, RECORDED, FACTS, VIEWS, BUILDS };
+enum { CLUB, ROWERS, RECORDED, AXIOMS, FACTS, VIEWS, BUILDS };
 
 static size_t build(int which, uint16_t *words, size_t room)
 {
@@ -134,6 +150,7 @@ static size_t build(int which, uint16_t *words, size_t room)
     case CLUB: return club(words, room).length;
     case ROWERS: return rowers(words, room).length;
     case RECORDED: return recorded(words, room).length;
+    case AXIOMS: return axioms(words, room).length;
     case FACTS: return facts(words, room).length;
     default: return both_views(words, room).length;
     }
@@ -185,21 +202,16 @@ static void bounds(void)
 /* Every builder, against words that were worked out by hand. */
 static void literally(void)
 {
-    static const uint16_t SCHEMA[] = {3, 2, 1, 5, 256, 513, 770, 1026, 1281, 1, 258, 1, 0, 513};
+    static const uint16_t SCHEMA[] = {3, 2, 4, 5, 10, 256, 513, 770, 1026, 1281, 1, 258, 1, 0, 513};
     static const uint16_t CONCEPT[] = {14, 2, 1, 2, 4, 5, 3, 6, 8, 4, 5, 2, 7, 5, 9, 4,
                                        2, 0, 0, 0, 0, 1, 0, 0, 0, 0, 0, 0, 0, 0};
     static const uint16_t STATE[] = {3, 7, 1, 11778, 15873, 15873, 15873, 16386, 16896, 0, 0, 0, 1, 2, 0, 0};
     static const uint16_t CATALOGUE[] = {3, 14, 0, 22, 6, 1, 1, 5, 1, 6, 8, 4, 1, 0, 3, 3, 0, 0,
                                          10, 3, 1, 5, 1, 6, 2, 6, 1, 6, 8, 4, 0, 0, 2, 0, 0, 1, 3, 2, 0, 0};
     uint16_t words[LARGEST];
-    bikuvoa_schema s = bikuvoa_start_schema(words, LARGEST, 3, 2, 1);
     bikuvoa_concept c;
-    bikuvoa_subclass(&s, 0, 1);
-    bikuvoa_typing(&s, 1, 1, 2);
-    bikuvoa_necessary(&s, 2, 1);
-    bikuvoa_single(&s, 2, 0);
-    bikuvoa_relates(&s, 1, 2, 1);
-    check(s.length * sizeof *words == sizeof SCHEMA && memcmp(words, SCHEMA, sizeof SCHEMA) == 0, "a schema's words", 0);
+    check(axioms(words, LARGEST).length * sizeof *words == sizeof SCHEMA, "a schema's length", 0);
+    check(memcmp(words, SCHEMA, sizeof SCHEMA) == 0, "a schema's words", 0);
     c = bikuvoa_start_concept(words, LARGEST);
     bikuvoa_class(&c, 2);
     bikuvoa_everything(&c);
@@ -251,7 +263,7 @@ static void counts(void)
 static void long_view(void)
 {
     static uint16_t view[65536], words[BIKUVOA_CATALOGUE_SIZES(1) + 65536];
-    static const uint16_t NOTHING_DECLARED[BIKUVOA_SCHEMA_SIZES] = {0, 0, 0, 0};
+    static const uint16_t NOTHING_DECLARED[BIKUVOA_SCHEMA_SIZES] = {0, 0, 0, 0, 0};
     uint16_t rows[BIKUVOA_MAX_VIEWS], order[BIKUVOA_MAX_VIEWS];
     uint64_t groups;
     size_t length;
@@ -346,6 +358,37 @@ static void large_numbers(void)
     check(got == BIKUVOA_BAD_STATE_SHAPE, "65,536 objects", 0);
 }
 
+/* Marks constant k among so many, between two axioms; the schema's refusal. */
+static uint16_t marked(uint16_t *words, size_t constants, size_t k)
+{
+    bikuvoa_schema s = bikuvoa_start_schema(words, BIKUVOA_SCHEMA_WORDS(2), 1, 1, constants);
+    bikuvoa_subclass(&s, 0, 0);
+    bikuvoa_loose(&s, k);
+    bikuvoa_necessary(&s, 0, 0);
+    return bikuvoa_schema_refusal(s.words, s.length);
+}
+
+/* A mark is accepted exactly if the constant is declared. A number that has no bit of its own marks no constant. */
+static void loose_numbers(void)
+{
+    static const size_t LARGE[] = {16, 17, 31, 32, 63, 64, 65535, 65536, 65536 + 1, SIZE_MAX};
+    uint16_t words[BIKUVOA_SCHEMA_WORDS(2)], got;
+    size_t constants, k;
+    int i, row = 0;
+    for (constants = 0; constants <= BIKUVOA_MAX_CONSTANTS; constants++) {
+        for (k = 0; k < 16; k++, row++) {
+            got = marked(words, constants, k);
+            check(words[BIKUVOA_AT_LOOSE] == 1u << k, "the mark of a constant", row);
+            check(got == (k < constants ? BIKUVOA_ACCEPTED : BIKUVOA_BAD_LOOSE), "a loose constant", row);
+        }
+        for (i = 0; i < 10; i++, row++) {
+            got = marked(words, constants, LARGE[i]);
+            check(got == BIKUVOA_BAD_LOOSE && words[BIKUVOA_AT_LOOSE] % (1u << BIKUVOA_MAX_CONSTANTS) == 0,
+                  "a large number of a loose constant", row);
+        }
+    }
+}
+
 int main(int argc, char **argv)
 {
     if (argc != 2) return 2;
@@ -359,6 +402,7 @@ int main(int argc, char **argv)
     long_view();
     states();
     large_numbers();
+    loose_numbers();
     printf("%d checks passed\n", passed);
     return 0;
 }
