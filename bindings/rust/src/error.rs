@@ -33,7 +33,7 @@ pub enum BuildError {
     NameTaken { what: Item, name: String },
     /// The constant names another object already.
     NamesTwo(Constant),
-    /// Another constant names the object already.
+    /// Another constant names the object already, and neither of the two is loose.
     NamedByTwo(Object),
     /// The state is complete but for the constant's object.
     NamesNone(Constant),
@@ -70,7 +70,10 @@ impl fmt::Display for BuildError {
                 write!(f, "constant {number} names another object already")
             }
             BuildError::NamedByTwo(Object(number)) => {
-                write!(f, "object {number} is another constant's already")
+                write!(
+                    f,
+                    "object {number} is another constant's already, and neither is loose"
+                )
             }
             BuildError::NamesNone(Constant(number)) => {
                 write!(f, "constant {number} names no object")

@@ -53,9 +53,9 @@ pub struct Layout {
     pub max: usize,
 }
 
-/// Size words: classes, attributes, constants, axioms.
+/// Size words: classes, attributes, constants, axioms, loose constants.
 pub const SCHEMA: Layout = Layout {
-    sizes: 4,
+    sizes: 5,
     counter: 3,
     max: MAX_AXIOMS,
 };
@@ -115,19 +115,28 @@ pub struct Signature {
     pub classes: u16,
     pub attributes: u16,
     pub constants: u16,
+    /// The loose constants: bit k, from the lowest, marks constant k, which may
+    /// then name the same object as any other constant.
+    pub loose: u16,
 }
 
 impl Signature {
     /// What a schema record declares, if it has its size words.
     pub fn of(schema: &[u16]) -> Option<Self> {
-        let &[classes, attributes, constants, ..] = schema.get(..SCHEMA.sizes)? else {
+        let &[classes, attributes, constants, _, loose] = schema.get(..SCHEMA.sizes)? else {
             return None;
         };
         Some(Signature {
             classes,
             attributes,
             constants,
+            loose,
         })
+    }
+
+    /// Whether the constant is marked loose.
+    pub fn is_loose(self, constant: u16) -> bool {
+        constant < 16 && self.loose >> constant & 1 == 1
     }
 }
 
@@ -136,8 +145,9 @@ pub fn schema(signature: Signature, axioms: &[Pair]) -> Vec<u16> {
         classes,
         attributes,
         constants,
+        loose,
     } = signature;
-    SCHEMA.record(&[classes, attributes, constants], axioms)
+    SCHEMA.record(&[classes, attributes, constants, 0, loose], axioms)
 }
 
 /// A concept record, which counts its steps.

@@ -21,9 +21,11 @@ impl Refusal {
     pub const FEW_LENT_WORDS: Refusal = Refusal(11);
     pub const BAD_ATTRIBUTE: Refusal = Refusal(12);
     pub const BAD_CATALOGUE: Refusal = Refusal(13);
+    /// Looked for directly after [`Refusal::BAD_SCHEMA_SHAPE`].
+    pub const BAD_LOOSE: Refusal = Refusal(14);
 
     /// The refusal with the highest number.
-    pub const LAST: Refusal = Refusal::BAD_CATALOGUE;
+    pub const LAST: Refusal = Refusal::BAD_LOOSE;
 
     /// The refusal's number, from 1 on.
     pub const fn number(self) -> u16 {
@@ -81,7 +83,7 @@ impl Refusal {
                 "state: facts that do not ascend, or a fact twice"
             }
             Refusal::BAD_CONSTANTS => {
-                "state: a declared constant without an object or with several, or two constants with the same object"
+                "state: a declared constant without an object or with several, or two that are not loose with the same object"
             }
             Refusal::FEW_LENT_WORDS => {
                 "lent words: too few"
@@ -91,6 +93,9 @@ impl Refusal {
             }
             Refusal::BAD_CATALOGUE => {
                 "catalogue: no view, too many, or a length that does not fit the count and the length words"
+            }
+            Refusal::BAD_LOOSE => {
+                "schema: a constant that is marked loose and not declared"
             }
             // A library later than this crate may have more of them.
             _ => "a refusal that is not known here",

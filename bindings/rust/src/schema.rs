@@ -3,6 +3,7 @@
 use crate::error::{BuildError, Item};
 use crate::layout::{self, axiom, Pair, Signature};
 use crate::layout::{MAX_ATTRIBUTES, MAX_AXIOMS, MAX_CLASSES, MAX_CONSTANTS};
+use crate::named::numbers;
 use crate::raw;
 use crate::refusal::Refusal;
 
@@ -15,7 +16,8 @@ pub struct Class(pub u16);
 #[derive(Clone, Copy, Debug, PartialEq, Eq, PartialOrd, Ord, Hash)]
 pub struct Attribute(pub u16);
 
-/// A constant, by its number.
+/// A constant, by its number. It names an object, which is no other constant's
+/// unless one of the two is loose.
 #[derive(Clone, Copy, Debug, PartialEq, Eq, PartialOrd, Ord, Hash)]
 pub struct Constant(pub u16);
 
@@ -220,20 +222,14 @@ impl Declared {
             constants: Names::new(Item::Constant, MAX_CONSTANTS),
         }
     }
-
-    fn signature(&self) -> Signature {
-        Signature {
-            classes: self.classes.count(),
-            attributes: self.attributes.count(),
-            constants: self.constants.count(),
-        }
-    }
 }
 
 /// Declares classes, attributes and constants, and states axioms about them.
 #[derive(Clone, Debug)]
 pub struct SchemaBuilder {
     declared: Declared,
+    /// The loose word of the signature.
+    loose: u16,
     axioms: Vec<Axiom>,
 }
 
@@ -242,17 +238,22 @@ impl SchemaBuilder {
     pub fn new() -> Self {
         SchemaBuilder {
             declared: Declared::new(),
+            loose: 0,
             axioms: Vec::new(),
         }
     }
 
-    /// So much declared, without names: from [`Class`]`(0)` on, and so forth.
+    /// So much declared, without names: from [`Class`]`(0)` on, and so forth. The
+    /// constants that are marked loose must be declared.
     pub fn numbered(signature: Signature) -> Result<Self, BuildError> {
         let mut builder = SchemaBuilder::new();
         let declared = &mut builder.declared;
         declared.classes.declare_unnamed(signature.classes)?;
         declared.attributes.declare_unnamed(signature.attributes)?;
         declared.constants.declare_unnamed(signature.constants)?;
+        for constant in numbers(signature.loose.into()).map(Constant) {
+            builder.loose(constant)?;
+        }
         Ok(builder)
     }
 
@@ -271,9 +272,17 @@ impl SchemaBuilder {
         self.declared.constants.declare(Some(name)).map(Constant)
     }
 
+    /// Marks a declared constant as loose: it may name the same object as any
+    /// other constant.
+    pub fn loose(&mut self, constant: Constant) -> Result<&mut Self, BuildError> {
+        self.signature().check_constant(constant)?;
+        self.loose |= 1 << constant.0;
+        Ok(self)
+    }
+
     /// States an axiom, after those already stated. It may repeat one of them.
     pub fn axiom(&mut self, axiom: Axiom) -> Result<&mut Self, BuildError> {
-        self.declared.signature().check_axiom(axiom)?;
+        self.signature().check_axiom(axiom)?;
         if self.axioms.len() == MAX_AXIOMS {
             return Err(BuildError::TooMany {
                 what: Item::Axiom,
@@ -335,8 +344,17 @@ impl SchemaBuilder {
     pub fn build(&self) -> Schema {
         let axioms: Vec<Pair> = self.axioms.iter().map(|axiom| axiom.words()).collect();
         Schema {
-            words: layout::schema(self.declared.signature(), &axioms),
+            words: layout::schema(self.signature(), &axioms),
             names: self.declared.clone(),
+        }
+    }
+
+    fn signature(&self) -> Signature {
+        Signature {
+            classes: self.declared.classes.count(),
+            attributes: self.declared.attributes.count(),
+            constants: self.declared.constants.count(),
+            loose: self.loose,
         }
     }
 }
@@ -369,9 +387,14 @@ impl Schema {
         &self.words
     }
 
-    /// How much is declared.
+    /// How much is declared, and which constants are loose.
     pub fn signature(&self) -> Signature {
         Signature::of(&self.words).unwrap_or_default()
+    }
+
+    /// Whether the constant is loose; not so of one that is not declared.
+    pub fn is_loose(&self, Constant(number): Constant) -> bool {
+        self.signature().is_loose(number)
     }
 
     /// The class of that name.

@@ -152,7 +152,7 @@ impl StateBuilder {
     }
 
     /// Says [`Fact::Name`]. Each constant names one object, and different
-    /// constants different objects.
+    /// constants different objects unless one of the two is loose.
     pub fn name(&mut self, constant: Constant, object: Object) -> Result<&mut Self, BuildError> {
         self.fact(Fact::Name { constant, object })
     }
@@ -172,10 +172,12 @@ impl StateBuilder {
     }
 
     fn check_name(&self, constant: Constant, object: Object) -> Result<(), BuildError> {
+        let is_loose = |Constant(number)| self.signature.is_loose(number);
         for (&known, &named) in &self.names {
+            let may_share = is_loose(known) || is_loose(constant);
             match (known == constant, named == object) {
                 (true, false) => return Err(BuildError::NamesTwo(constant)),
-                (false, true) => return Err(BuildError::NamedByTwo(object)),
+                (false, true) if !may_share => return Err(BuildError::NamedByTwo(object)),
                 _ => {}
             }
         }

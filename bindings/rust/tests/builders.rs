@@ -23,7 +23,7 @@ const CAPTAIN: Constant = Constant(0);
 #[test]
 fn a_schema_has_its_record_names_and_axioms() {
     let schema = straps().build();
-    assert_eq!(schema.words(), [2, 1, 1, 2, 1025, 1280, 0, 256]);
+    assert_eq!(schema.words(), [2, 1, 1, 2, 0, 1025, 1280, 0, 256]);
     assert_eq!(schema.class("Person"), Ok(PERSON));
     assert_eq!(schema.attribute("wears"), Ok(WEARS));
     assert_eq!(schema.constant("captain"), Ok(CAPTAIN));
@@ -51,7 +51,8 @@ fn every_kind_of_axiom_comes_out_again() {
     let signature = Signature {
         classes: 3,
         attributes: 2,
-        constants: 0,
+        constants: 4,
+        loose: 0b1010,
     };
     let (class, attribute) = (Class(2), Attribute(1));
     let axioms = [
@@ -83,6 +84,33 @@ fn every_kind_of_axiom_comes_out_again() {
     assert_eq!(read.signature(), signature);
     assert_eq!(read.axioms().collect::<Vec<_>>(), axioms);
     assert_eq!(read.class_name(class), None);
+}
+
+#[test]
+fn loose_constants_are_marked() {
+    let mut builder = straps();
+    let stroke = builder.constant("stroke").expect("a constant");
+    let guest = builder.constant("guest").expect("a constant");
+    builder.loose(stroke).expect("a mark");
+    let schema = builder.build();
+    let words = [2, 1, 3, 2, 0b010, 1025, 1280, 0, 256];
+    assert_eq!(schema.words(), words);
+    let loose = [CAPTAIN, stroke, guest].map(|constant| schema.is_loose(constant));
+    assert_eq!(loose, [false, true, false]);
+    let read = Schema::from_words(words.to_vec()).expect("an accepted schema");
+    assert!(read.is_loose(stroke) && !read.is_loose(guest));
+
+    // A constant may be marked twice.
+    for constant in [guest, stroke] {
+        builder.loose(constant).expect("a mark");
+    }
+    assert_eq!(builder.build().words()[..5], [2, 1, 3, 2, 0b110]);
+    for number in [3, 4, 15, 16, 17, u16::MAX] {
+        let unmarked = builder.loose(Constant(number)).map(|_| ());
+        assert_eq!(unmarked, undeclared(Item::Constant, number));
+        assert!(!builder.build().is_loose(Constant(number)));
+    }
+    assert_eq!(builder.build().words()[..5], [2, 1, 3, 2, 0b110]);
 }
 
 #[test]
@@ -331,8 +359,10 @@ fn each_constant_names_one_object_of_its_own() {
     assert_eq!(builder.build(), Err(BuildError::NamesNone(stroke)));
     let two = builder.name(CAPTAIN, other).map(|_| ());
     assert_eq!(two, Err(BuildError::NamesTwo(CAPTAIN)));
-    let shared = builder.name(stroke, one).map(|_| ());
-    assert_eq!(shared, Err(BuildError::NamedByTwo(one)));
+    let shared = BuildError::NamedByTwo(one);
+    let told = "object 0 is another constant's already, and neither is loose";
+    assert_eq!(shared.to_string(), told);
+    assert_eq!(builder.name(stroke, one).map(|_| ()), Err(shared));
     builder.name(stroke, other).expect("a name");
     let state = builder.build().expect("a state");
     let read = State::from_words(&schema, state.words().to_vec());

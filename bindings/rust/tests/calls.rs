@@ -16,6 +16,7 @@ const STRAPS: Signature = Signature {
     classes: 2,
     attributes: 1,
     constants: 1,
+    loose: 0,
 };
 
 /// A person wears at most one thing, and only persons wear, and only straps.
@@ -116,6 +117,7 @@ fn the_counts_of_links() {
         classes: 2,
         attributes: 2,
         constants: 0,
+        loose: 0,
     };
     let mut builder = SchemaBuilder::numbered(signature).expect("few enough");
     builder.single(PERSON, WEARS).expect("an axiom");
@@ -170,6 +172,7 @@ fn the_names_in_concepts() {
         classes: 3,
         attributes: 2,
         constants: 3,
+        loose: 0b011,
     };
     let mut builder = SchemaBuilder::numbered(signature).expect("few enough");
     builder.relates(WEARS, PERSON, STRAP).expect("an axiom");
@@ -255,13 +258,33 @@ fn cut(mut words: Vec<u16>) -> Vec<u16> {
     words
 }
 
+/// As `STRAPS`, with another loose word.
+fn with_loose(loose: u16) -> Signature {
+    Signature { loose, ..STRAPS }
+}
+
 fn faulty_schemas() -> Vec<(u16, Vec<u16>)> {
     let undeclared = axiom::subclass(STRAPS.classes, 0);
     let (_, right) = axiom::relates(0, 0, 0);
     let unknown = (256 * (axiom::RELATES + 1), right);
+    let one_more = Signature {
+        classes: layout::MAX_CLASSES + 1,
+        ..with_loose(0b10)
+    };
     vec![
         (1, vec![]),
         (1, cut(words().schema)),
+        // Records without a loose word, with axioms and with none.
+        (1, vec![2, 1, 1, 2, 1025, 1280, 0, 256]),
+        (1, vec![2, 1, 1, 0]),
+        // The loose word is looked at after the sizes and before the axioms.
+        (1, cut(layout::schema(with_loose(0b10), &[undeclared]))),
+        (1, layout::schema(one_more, &[])),
+        (14, layout::schema(with_loose(0b10), &[undeclared])),
+        (14, layout::schema(with_loose(0b11), &[])),
+        (14, layout::schema(with_loose(1 << 15), &[unknown])),
+        (14, layout::schema(with_loose(u16::MAX), &[])),
+        (2, layout::schema(with_loose(0b01), &[undeclared])),
         (2, layout::schema(STRAPS, &[undeclared])),
         (2, layout::schema(STRAPS, &[unknown])),
     ]

@@ -18,6 +18,7 @@ fn club() -> Schema {
         classes: 4,
         attributes: 1,
         constants: 2,
+        loose: 0,
     };
     let mut builder = SchemaBuilder::numbered(signature).expect("few enough");
     builder.subclass(ROWER, PERSON).expect("an axiom");
@@ -90,8 +91,8 @@ fn the_views_of_a_club() {
     assert_eq!(catalogued.groups, 5);
 }
 
-/// Two constants name different objects, so nothing is both, and what is empty in
-/// every state is held by every view.
+/// Two constants that are not loose name different objects, so nothing is both, and
+/// what is empty in every state is held by every view.
 #[test]
 fn an_empty_view_comes_first() {
     let [one, other] = [0, 1].map(|number| Concept::constant(Constant(number)));
@@ -99,6 +100,24 @@ fn an_empty_view_comes_first() {
     let turned = Concept::both(other, one.clone());
     let views = [Concept::everything(), one, neither, turned];
     assert_eq!(in_order(&club(), &views), [vec![2, 3], vec![1], vec![0]]);
+}
+
+/// What is both constants is held by the coxes only if there is no such thing, and
+/// comes before them then.
+#[test]
+fn a_loose_constant_may_be_another() {
+    let [one, other] = [0, 1].map(|number| Concept::constant(Constant(number)));
+    let views = [class(COX), Concept::both(one, other)];
+    for loose in 0b00..=0b11 {
+        // The club without its axioms.
+        let signature = Signature {
+            loose,
+            ..club().signature()
+        };
+        let builder = SchemaBuilder::numbered(signature).expect("few enough");
+        let expected = if loose == 0 { [[1], [0]] } else { [[0], [1]] };
+        assert_eq!(in_order(&builder.build(), &views), expected, "{loose}");
+    }
 }
 
 #[test]
@@ -282,7 +301,12 @@ fn a_refused_catalogue_alters_nothing() {
         assert_eq!(refused(schema.words(), &sound, rows, order), 11);
     }
     let unknown_axiom = layout::schema(schema.signature(), &[(0, 0)]);
-    for (expected, faulty) in [(1, vec![]), (2, unknown_axiom)] {
+    let undeclared = Signature {
+        loose: 0b100,
+        ..schema.signature()
+    };
+    let loose = layout::schema(undeclared, &[]);
+    for (expected, faulty) in [(1, vec![]), (14, loose), (2, unknown_axiom)] {
         assert_eq!(refused(&faulty, &sound, enough, enough), expected);
     }
 }

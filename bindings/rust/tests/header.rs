@@ -2,11 +2,11 @@
 //! declarations of the functions are those of include/bikuvoa.h.
 
 use bikuvoa::layout::{self, axiom, fact, token, CONCEPT, SCHEMA, STATE};
-use bikuvoa::{raw, Refusal};
+use bikuvoa::{raw, Refusal, Signature};
 use std::collections::BTreeMap;
 
 /// Each refusal by the header's name.
-const REFUSALS: [(&str, Refusal); 13] = [
+const REFUSALS: [(&str, Refusal); 14] = [
     ("BAD_SCHEMA_SHAPE", Refusal::BAD_SCHEMA_SHAPE),
     ("BAD_AXIOM", Refusal::BAD_AXIOM),
     ("BAD_CONCEPT_SHAPE", Refusal::BAD_CONCEPT_SHAPE),
@@ -20,6 +20,7 @@ const REFUSALS: [(&str, Refusal); 13] = [
     ("FEW_LENT_WORDS", Refusal::FEW_LENT_WORDS),
     ("BAD_ATTRIBUTE", Refusal::BAD_ATTRIBUTE),
     ("BAD_CATALOGUE", Refusal::BAD_CATALOGUE),
+    ("BAD_LOOSE", Refusal::BAD_LOOSE),
 ];
 
 /// A file, by its path from this crate's folder.
@@ -102,6 +103,24 @@ fn the_numbers_are_the_headers() {
     for (name, refusal) in REFUSALS {
         same(name, refusal.number().into());
     }
+}
+
+#[test]
+fn the_size_words_of_a_schema_are_the_headers() {
+    let header = header();
+    let mut words = vec![0; SCHEMA.sizes];
+    words[header["AT_CLASSES"]] = 1;
+    words[header["AT_ATTRIBUTES"]] = 2;
+    words[header["AT_CONSTANTS"]] = 3;
+    words[header["AT_LOOSE"]] = 4;
+    let signature = Signature {
+        classes: 1,
+        attributes: 2,
+        constants: 3,
+        loose: 4,
+    };
+    assert_eq!(layout::schema(signature, &[]), words);
+    assert_eq!(Signature::of(&words), Some(signature));
 }
 
 #[test]

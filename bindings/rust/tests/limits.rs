@@ -12,6 +12,7 @@ const LARGEST: Signature = Signature {
     classes: MAX_CLASSES,
     attributes: MAX_ATTRIBUTES,
     constants: MAX_CONSTANTS,
+    loose: 0,
 };
 
 fn too_many<T>(what: Item, limit: usize) -> Result<T, BuildError> {
@@ -57,6 +58,35 @@ fn declared_names() {
         assert!(SchemaBuilder::numbered(signature).is_err());
         let words = layout::schema(signature, &[]);
         assert_eq!(refused_as(Schema::from_words(words)), Some(1));
+    }
+}
+
+/// Every loose word with every number of constants: all that it marks must be
+/// declared.
+#[test]
+fn loose_constants() {
+    for constants in 0..=MAX_CONSTANTS {
+        for loose in 0..=u16::MAX {
+            let signature = Signature {
+                constants,
+                loose,
+                ..Signature::default()
+            };
+            let words = layout::schema(signature, &[]);
+            let read = Schema::from_words(words.clone()).map(|_| ());
+            let built = SchemaBuilder::numbered(signature).map(|builder| builder.build());
+            match (constants..16).find(|number| loose >> number & 1 == 1) {
+                None => {
+                    assert_eq!(read, Ok(()));
+                    assert_eq!(built.expect("a schema").words(), words);
+                }
+                Some(number) => {
+                    assert_eq!(read, Err(Refusal::BAD_LOOSE));
+                    let what = Item::Constant;
+                    assert_eq!(built, Err(BuildError::Undeclared { what, number }));
+                }
+            }
+        }
     }
 }
 

@@ -8,6 +8,7 @@ use bikuvoa::{links_by_first, links_by_second};
 use bikuvoa::{Attribute, Axiom, Class, Concept, Constant, Fact, Object, Path, Signature, Token};
 use bikuvoa::{Decision, Legality, Named, Query, Refusal, Schema, State, View};
 use bikuvoa::{SchemaBuilder, StateBuilder};
+use std::collections::BTreeSet;
 
 const DRAWS: usize = 2_000;
 
@@ -28,10 +29,12 @@ impl Random {
     }
 
     fn signature(&mut self) -> Signature {
+        let constants = self.below(MAX_CONSTANTS + 1);
         Signature {
             classes: self.below(MAX_CLASSES + 1),
             attributes: self.below(MAX_ATTRIBUTES + 1),
-            constants: self.below(MAX_CONSTANTS + 1),
+            constants,
+            loose: self.below(1 << constants),
         }
     }
 
@@ -180,20 +183,32 @@ fn built_concepts_are_accepted() {
     assert!(queries > views, "{queries} queries, {views} views");
 }
 
+/// Whether two constants name one object.
+fn is_shared(state: &State) -> bool {
+    let mut objects = state.facts().filter_map(|fact| match fact {
+        Fact::Name { object, .. } => Some(object),
+        _ => None,
+    });
+    let mut known = BTreeSet::new();
+    !objects.all(|object| known.insert(object))
+}
+
 #[test]
 fn built_states_are_accepted() {
     let mut random = Random(3);
-    let mut states = 0;
+    let (mut states, mut shared) = (0, 0);
     for _ in 0..DRAWS {
         let schema = random.schema();
         if let Some(state) = random.state(&schema) {
             states += 1;
+            shared += usize::from(is_shared(&state));
             let read = State::from_words(&schema, state.words().to_vec());
             assert_eq!(read, Ok(state.clone()));
             assert!(schema.legal(&state).is_ok());
         }
     }
     assert!(states > DRAWS / 4, "{states} states");
+    assert!(shared > DRAWS / 20, "{shared} with a shared object");
 }
 
 #[test]
@@ -286,7 +301,7 @@ fn names_of_built_concepts_are_told() {
 #[test]
 fn built_triples_are_decided() {
     let mut random = Random(4);
-    let (mut held, mut open) = (0, 0);
+    let (mut held, mut open, mut shared) = (0, 0, 0);
     while held + open < DRAWS {
         let schema = random.schema();
         let signature = schema.signature();
@@ -301,6 +316,7 @@ fn built_triples_are_decided() {
             Decision::Held => held += 1,
             Decision::Open { state, object } => {
                 open += 1;
+                shared += usize::from(is_shared(&state));
                 assert_eq!(schema.legal(&state), Ok(Legality::Legal));
                 let in_query = schema.select(&query, &state).expect("a selection");
                 let in_view = schema.select(&view.clone().into(), &state);
@@ -313,6 +329,7 @@ fn built_triples_are_decided() {
         }
     }
     assert!(held > DRAWS / 20 && open > DRAWS / 20, "{held}, {open}");
+    assert!(shared > DRAWS / 200, "{shared} with a shared object");
 }
 
 /// The groups by their definition: each time, of those with no narrower group to
