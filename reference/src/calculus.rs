@@ -14,7 +14,7 @@ mod terms;
 
 use crate::syntax::{Concept, Schema};
 use normal_form::normalise;
-use pair::Pair;
+use pair::{Individual, Pair};
 use terms::{ConceptId, Terms};
 
 /// Whether the view holds the query in every legal state.
@@ -43,12 +43,20 @@ pub(crate) struct Calculus<'a> {
 
 impl<'a> Calculus<'a> {
     /// A constant that the query does not name is an object of every state all
-    /// the same, but nothing is forced on it, so it needs no individual here.
+    /// the same, but nothing is forced on it, so no fact is about it.
     pub(crate) fn new(schema: &'a Schema, query: &Concept, view: &Concept) -> Self {
         let mut terms = Terms::default();
         let query = normalise(&mut terms, query);
         let view = normalise(&mut terms, view);
-        let pair = Pair::new(query, view);
+        let individual = |constant| {
+            if schema.loose.contains(&constant) {
+                Individual::Loose(constant)
+            } else {
+                Individual::Constant(constant)
+            }
+        };
+        let constants = (0..schema.constants).map(individual).collect();
+        let pair = Pair::new(query, view, constants);
         Calculus {
             schema,
             terms,

@@ -8,6 +8,8 @@ pub struct Schema {
     pub classes: usize,
     pub attributes: usize,
     pub constants: usize,
+    /// The constants that may name the same object as any other.
+    pub loose: BTreeSet<usize>,
     pub axioms: Vec<Axiom>,
 }
 

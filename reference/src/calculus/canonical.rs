@@ -18,7 +18,7 @@ impl Calculus<'_> {
             classes: vec![BTreeSet::from([closing]); self.schema.classes],
             attributes: vec![BTreeSet::from([(closing, closing)]); self.schema.attributes],
             constants: (0..self.schema.constants)
-                .map(|constant| numbers[&Individual::Constant(constant)])
+                .map(|constant| numbers[&self.pair.constant(constant)])
                 .collect(),
         };
         for (concept, s) in self.pair.members() {
@@ -39,7 +39,7 @@ impl Calculus<'_> {
     /// the facts.
     fn number_individuals(&self) -> BTreeMap<Individual, usize> {
         let mut individuals = BTreeSet::from([self.pair.start()]);
-        individuals.extend((0..self.schema.constants).map(Individual::Constant));
+        individuals.extend((0..self.schema.constants).map(|constant| self.pair.constant(constant)));
         individuals.extend(self.pair.members().into_iter().map(|(_, s)| s));
         individuals.extend(self.pair.edges().into_iter().map(|(s, _, _)| s));
         individuals.extend(self.pair.connections().into_iter().map(|(_, _, t)| t));

@@ -1,4 +1,5 @@
-//! Clashes: facts that would make two constants the same object.
+//! Clashes: facts that would make two constants, neither of them loose, the same
+//! object.
 
 use super::pair::Individual;
 use super::terms::ConceptTerm;
@@ -10,14 +11,14 @@ impl Calculus<'_> {
         self.pair
             .members()
             .into_iter()
-            .any(|(concept, s)| match (self.terms.concept(concept), s) {
-                (ConceptTerm::Constant(named), Individual::Constant(constant)) => named != constant,
-                (ConceptTerm::Class(class), _) => self.overfull(s, class),
+            .any(|(concept, s)| match self.terms.concept(concept) {
+                ConceptTerm::Constant(constant) => s.differs(self.pair.constant(constant)),
+                ConceptTerm::Class(class) => self.overfull(s, class),
                 _ => false,
             })
     }
 
-    /// Whether two constants are values of an attribute that is single here.
+    /// Whether two constants that differ are values of an attribute that is single here.
     fn overfull(&self, s: Individual, class: usize) -> bool {
         self.schema.axioms.iter().any(|axiom| match *axiom {
             Axiom::Single {
@@ -25,7 +26,7 @@ impl Calculus<'_> {
                 attribute,
             } if bound == class => {
                 let fillers = self.pair.fillers(s, Role::forward(attribute));
-                matches!(fillers[..], [_, Individual::Constant(_), ..])
+                matches!(fillers[..], [one, other, ..] if one.differs(other))
             }
             _ => false,
         })

@@ -20,13 +20,13 @@ impl Calculus<'_> {
         altered
     }
 
-    /// C1 to C4: whether the facts at hand make up the concept. A class or a
-    /// constant is never made up: D3, the one rule that brings constants in,
-    /// leaves the fact that the constant is itself.
+    /// C1 to C4: whether the facts at hand make up the concept. A class is never
+    /// made up.
     fn composes(&self, s: Individual, concept: ConceptId) -> bool {
         match self.terms.concept(concept) {
-            ConceptTerm::Class(_) | ConceptTerm::Constant(_) => false,
+            ConceptTerm::Class(_) => false,
             ConceptTerm::Top => true,
+            ConceptTerm::Constant(constant) => s == self.pair.constant(constant),
             ConceptTerm::Both(left, right) => {
                 self.pair.is_member(s, left) && self.pair.is_member(s, right)
             }

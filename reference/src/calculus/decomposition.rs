@@ -7,7 +7,7 @@ use super::Calculus;
 
 impl Calculus<'_> {
     pub(super) fn decompose(&mut self) -> bool {
-        let mut altered = self.substitute_constants();
+        let mut altered = self.merge_constants();
         for (concept, s) in self.pair.members() {
             altered |= match self.terms.concept(concept) {
                 // D1
@@ -25,19 +25,18 @@ impl Calculus<'_> {
         altered
     }
 
-    /// D3: a variable that is in a constant becomes that constant.
-    fn substitute_constants(&mut self) -> bool {
+    /// D3: an individual that is in a constant and the one that stands for the
+    /// constant become one.
+    fn merge_constants(&mut self) -> bool {
         let mut altered = false;
         for (concept, s) in self.pair.members() {
             let ConceptTerm::Constant(constant) = self.terms.concept(concept) else {
                 continue;
             };
-            // An earlier substitution may have removed this variable's facts;
-            // then there is nothing left of it to replace.
-            let current = self.pair.is_member(s, concept);
-            if current && matches!(s, Individual::Variable(_)) {
-                self.pair.substitute(s, Individual::Constant(constant));
-                altered = true;
+            // An earlier merge may have replaced this individual in all facts;
+            // then there is nothing left of it to merge.
+            if self.pair.is_member(s, concept) {
+                altered |= self.pair.merge(s, self.pair.constant(constant));
             }
         }
         altered

@@ -5,12 +5,22 @@ use super::terms::{ConceptId, PathId};
 use crate::syntax::Role;
 use std::collections::BTreeSet;
 
-/// Constants sort before variables, so that a merge of the greatest of several
-/// individuals into the least never replaces a constant by a variable.
+/// Constants that are not loose sort first and variables last, so that a merge of
+/// the greatest of several individuals into the least replaces a variable or a
+/// loose constant, if there is one.
 #[derive(Clone, Copy, Debug, PartialEq, Eq, PartialOrd, Ord)]
 pub(crate) enum Individual {
     Constant(usize),
+    Loose(usize),
     Variable(usize),
+}
+
+impl Individual {
+    /// Whether no state has one object for both: two constants, neither loose.
+    pub(crate) fn differs(self, other: Self) -> bool {
+        let constants = (self, other);
+        self != other && matches!(constants, (Self::Constant(_), Self::Constant(_)))
+    }
 }
 
 const LEAST: Individual = Individual::Constant(0);
@@ -27,12 +37,15 @@ pub(crate) struct Pair {
     /// The goals `s:C`.
     goals: BTreeSet<(ConceptId, Individual)>,
     start: Individual,
+    /// For each constant the individual that now stands for it.
+    constants: Vec<Individual>,
     variables: usize,
 }
 
 impl Pair {
-    /// One variable that is in the query, with the goal that it is in the view.
-    pub(crate) fn new(query: ConceptId, view: ConceptId) -> Self {
+    /// One variable that is in the query, with the goal that it is in the view, and
+    /// these individuals for the constants.
+    pub(crate) fn new(query: ConceptId, view: ConceptId, constants: Vec<Individual>) -> Self {
         let start = Individual::Variable(0);
         Pair {
             members: BTreeSet::from([(query, start)]),
@@ -40,6 +53,7 @@ impl Pair {
             connections: BTreeSet::new(),
             goals: BTreeSet::from([(view, start)]),
             start,
+            constants,
             variables: 1,
         }
     }
@@ -47,6 +61,11 @@ impl Pair {
     /// The individual that now stands for the first variable.
     pub(crate) fn start(&self) -> Individual {
         self.start
+    }
+
+    /// The individual that now stands for the constant.
+    pub(crate) fn constant(&self, number: usize) -> Individual {
+        self.constants[number]
     }
 
     pub(crate) fn fresh(&mut self) -> Individual {
@@ -119,8 +138,18 @@ impl Pair {
         self.goals.iter().copied().collect()
     }
 
+    /// Makes two individuals one: the greater is replaced by the less. Those that
+    /// differ stay, and are a clash.
+    pub(crate) fn merge(&mut self, one: Individual, other: Individual) -> bool {
+        let merges = one != other && !one.differs(other);
+        if merges {
+            self.substitute(one.max(other), one.min(other));
+        }
+        merges
+    }
+
     /// Replaces one individual by another in all facts and goals.
-    pub(crate) fn substitute(&mut self, old: Individual, new: Individual) {
+    fn substitute(&mut self, old: Individual, new: Individual) {
         let swap = |s| if s == old { new } else { s };
         self.members = self.members.iter().map(|&(c, s)| (c, swap(s))).collect();
         self.edges = self
@@ -135,5 +164,6 @@ impl Pair {
             .collect();
         self.goals = self.goals.iter().map(|&(c, s)| (c, swap(s))).collect();
         self.start = swap(self.start);
+        self.constants = self.constants.iter().map(|&s| swap(s)).collect();
     }
 }

@@ -90,15 +90,15 @@ impl Calculus<'_> {
         altered
     }
 
-    /// S4. Fillers ascend with constants first; a last filler that is a
-    /// constant means that only constants are left, which is a clash.
+    /// S4. Fillers ascend; a last one that is a constant and not loose means that
+    /// only such are left, which is a clash. A member that an earlier merge has
+    /// replaced has no fillers any more.
     fn merge_values(&mut self, class: usize, attribute: usize) -> bool {
         let mut altered = false;
         for s in self.members_of_class(class) {
             let fillers = self.pair.fillers(s, Role::forward(attribute));
-            if let [first, .., last @ Individual::Variable(_)] = fillers[..] {
-                self.pair.substitute(last, first);
-                altered = true;
+            if let [first, .., last] = fillers[..] {
+                altered |= self.pair.merge(first, last);
             }
         }
         altered

@@ -1,7 +1,8 @@
-//! Schema records: refusals 1 and 2.
+//! Schema records: refusals 1, 14 and 2, in this order.
 
 use super::entries;
 use crate::syntax::{Axiom, Schema};
+use std::collections::BTreeSet;
 
 const CLASSES: u16 = 24;
 const ATTRIBUTES: u16 = 8;
@@ -10,7 +11,7 @@ const AXIOMS: u16 = 96;
 
 /// Decodes a schema record or gives the number of its refusal.
 pub fn schema(words: &[u16]) -> Result<Schema, u16> {
-    let &[classes, attributes, constants, count, ..] = words else {
+    let &[classes, attributes, constants, count, loose, ..] = words else {
         return Err(1);
     };
     let fits =
@@ -18,11 +19,13 @@ pub fn schema(words: &[u16]) -> Result<Schema, u16> {
     if !fits {
         return Err(1);
     }
-    let pairs = entries(words, 4, count).ok_or(1u16)?;
+    let pairs = entries(words, 5, count).ok_or(1u16)?;
+    let constants = usize::from(constants);
     let mut schema = Schema {
         classes: usize::from(classes),
         attributes: usize::from(attributes),
-        constants: usize::from(constants),
+        constants,
+        loose: marked(loose, constants).ok_or(14u16)?,
         axioms: Vec::new(),
     };
     for (left, right) in pairs {
@@ -30,6 +33,12 @@ pub fn schema(words: &[u16]) -> Result<Schema, u16> {
         schema.axioms.push(axiom);
     }
     Ok(schema)
+}
+
+/// The constants whose bits are set, if all of them are declared.
+fn marked(word: u16, constants: usize) -> Option<BTreeSet<usize>> {
+    let bits = (0..16).filter(|bit| word >> bit & 1 == 1);
+    bits.map(|bit| declared(bit, constants)).collect()
 }
 
 /// Kinds 1, 3 and 4 read the right word as one number, so anything in its high

@@ -42,7 +42,7 @@ pub fn state(words: &[u16], schema: &Schema) -> Result<State, u16> {
     if pairs.windows(2).any(|two| two[0] >= two[1]) {
         return Err(9);
     }
-    let constants = constants(&facts, schema.constants).ok_or(10u16)?;
+    let constants = constants(&facts, schema).ok_or(10u16)?;
     Ok(gather(schema, objects, &facts, constants))
 }
 
@@ -70,13 +70,15 @@ fn fact(schema: &Schema, objects: usize, left: u16, right: u16) -> Option<Fact> 
     }
 }
 
-/// The object of each constant, if each has exactly one and no two share one.
-fn constants(facts: &[Fact], count: usize) -> Option<Vec<usize>> {
-    let mut named = vec![None; count];
+/// The object of each constant, if each has exactly one and no two that are not
+/// loose share one.
+fn constants(facts: &[Fact], schema: &Schema) -> Option<Vec<usize>> {
+    let mut named = vec![None; schema.constants];
     let mut taken = BTreeSet::new();
     for fact in facts {
         if let Fact::Named { constant, object } = *fact {
-            if named[constant].replace(object).is_some() || !taken.insert(object) {
+            let shared = !schema.loose.contains(&constant) && !taken.insert(object);
+            if named[constant].replace(object).is_some() || shared {
                 return None;
             }
         }

@@ -11,6 +11,8 @@ struct Case {
     view: Concept,
     verdict: Verdict,
     refuted: bool,
+    /// Whether only states refute it in which constants share an object.
+    merges: bool,
 }
 
 #[derive(Default)]
@@ -18,11 +20,12 @@ struct Tally {
     held: usize,
     open: usize,
     confirmed: usize,
+    merging: usize,
 }
 
-/// The state whose memberships and pairs are the set bits of a number. The
-/// constants name the first objects.
-fn state(alphabet: Alphabet, objects: usize, bits: u64) -> State {
+/// The state whose memberships and pairs are the set bits of a number, and whose
+/// constants name these objects.
+fn state(alphabet: Alphabet, objects: usize, constants: &[usize], bits: u64) -> State {
     let mut place = 0;
     let mut next = || {
         place += 1;
@@ -39,26 +42,58 @@ fn state(alphabet: Alphabet, objects: usize, bits: u64) -> State {
         objects,
         classes,
         attributes,
-        constants: (0..alphabet.constants).collect(),
+        constants: constants.to_vec(),
     }
 }
 
-/// Whether the objects without a constant stand in order of their classes.
-fn sorted(alphabet: Alphabet, objects: usize, bits: u64) -> bool {
+/// For each way in which the constants may share objects, one choice of the
+/// objects that they name: each the next one, or that of a constant before it.
+/// The first has an object for each constant.
+fn namings(schema: &Schema) -> Vec<Vec<usize>> {
+    let mut namings = vec![Vec::new()];
+    for constant in 0..schema.constants {
+        let longer = namings.into_iter().flat_map(|naming: Vec<usize>| {
+            let may_name = |object: &usize| {
+                let mut before = naming.iter().enumerate();
+                before.all(|(other, named)| named != object || may_share(schema, other, constant))
+            };
+            let objects = (0..=named(&naming)).rev().filter(may_name);
+            let longer = objects.map(|object| [&naming[..], &[object]].concat());
+            longer.collect::<Vec<_>>()
+        });
+        namings = longer.collect();
+    }
+    namings
+}
+
+fn may_share(schema: &Schema, one: usize, other: usize) -> bool {
+    schema.loose.contains(&one) || schema.loose.contains(&other)
+}
+
+/// How many objects the constants name, which are the first ones.
+fn named(naming: &[usize]) -> usize {
+    naming.iter().max().map_or(0, |last| last + 1)
+}
+
+/// Whether the objects after the first so many stand in order of their classes.
+fn sorted(alphabet: Alphabet, named: usize, objects: usize, bits: u64) -> bool {
     let classes = |object| {
         let member = move |class| bits >> (class * objects + object) & 1;
         (0..alphabet.classes).map(member)
     };
-    (alphabet.constants + 1..objects).all(|object| classes(object - 1).le(classes(object)))
+    (named + 1..objects).all(|object| classes(object - 1).le(classes(object)))
 }
 
 /// Calls `visit` with every state of up to the given number of objects, but
 /// with only some of those that differ by a renaming of objects.
-fn each_state(alphabet: Alphabet, most: usize, mut visit: impl FnMut(&State)) {
-    for objects in alphabet.constants..=most {
-        let bits = alphabet.classes * objects + alphabet.attributes * objects * objects;
-        for number in (0..1 << bits).filter(|&bits| sorted(alphabet, objects, bits)) {
-            visit(&state(alphabet, objects, number));
+fn each_state(alphabet: Alphabet, schema: &Schema, most: usize, mut visit: impl FnMut(&State)) {
+    for naming in namings(schema) {
+        let named = named(&naming);
+        for objects in named..=most {
+            let bits = alphabet.classes * objects + alphabet.attributes * objects * objects;
+            for number in (0..1 << bits).filter(|&bits| sorted(alphabet, named, objects, bits)) {
+                visit(&state(alphabet, objects, &naming, number));
+            }
         }
     }
 }
@@ -77,6 +112,7 @@ fn cases(prng: &mut Prng, alphabet: Alphabet, schema: &Schema) -> Vec<Case> {
             view,
             verdict,
             refuted: false,
+            merges: false,
         }
     };
     (0..12).map(case).collect()
@@ -90,12 +126,13 @@ fn check(seed: u64, alphabet: Alphabet, most: usize, schemas: usize) -> Tally {
         let axioms = prng.below(8);
         let schema = random::schema(&mut prng, alphabet, axioms);
         let mut cases = cases(&mut prng, alphabet, &schema);
-        each_state(alphabet, most, |state| {
+        each_state(alphabet, &schema, most, |state| {
             if first_broken(&schema, state).is_some() {
                 return;
             }
             for case in cases.iter_mut().filter(|case| !case.refuted) {
                 case.refuted = separating(&case.query, &case.view, state).is_some();
+                case.merges = case.refuted && named(&state.constants) < alphabet.constants;
             }
         });
         for case in &cases {
@@ -108,6 +145,7 @@ fn check(seed: u64, alphabet: Alphabet, most: usize, schemas: usize) -> Tally {
                 Verdict::Open => {
                     tally.open += 1;
                     tally.confirmed += usize::from(case.refuted);
+                    tally.merging += usize::from(case.merges);
                 }
             }
         }
@@ -120,8 +158,9 @@ fn assert_telling(tally: &Tally) {
         held,
         open,
         confirmed,
+        merging,
     } = tally;
-    println!("held {held}, open {open}, confirmed {confirmed}");
+    println!("held {held}, open {open}, confirmed {confirmed}, merging {merging}");
     assert!(*held >= 50, "{held} held");
     assert!(*open >= 50, "{open} open");
     assert!(confirmed * 100 >= open * 95, "{confirmed} of {open}");
@@ -164,5 +203,20 @@ fn a_class_an_attribute_and_two_constants() {
         attributes: 1,
         constants: 2,
     };
-    assert_telling(&check(14, alphabet, 3, 30));
+    let tally = check(14, alphabet, 3, 30);
+    assert_telling(&tally);
+    assert!(tally.merging >= 10, "{} merging", tally.merging);
+}
+
+/// Of three, two that are not loose may each have to be the same as the third.
+#[test]
+fn a_class_an_attribute_and_three_constants() {
+    let alphabet = Alphabet {
+        classes: 1,
+        attributes: 1,
+        constants: 3,
+    };
+    let tally = check(15, alphabet, 3, 40);
+    assert_telling(&tally);
+    assert!(tally.merging >= 10, "{} merging", tally.merging);
 }

@@ -1,12 +1,15 @@
 //! Short constructors for concepts, paths and schemas.
 
 use crate::syntax::{Axiom, Concept, Path, Role, Schema, Step};
+use std::collections::BTreeSet;
 
+/// A schema without loose constants.
 pub fn schema(classes: usize, attributes: usize, constants: usize, axioms: &[Axiom]) -> Schema {
     Schema {
         classes,
         attributes,
         constants,
+        loose: BTreeSet::new(),
         axioms: axioms.to_vec(),
     }
 }

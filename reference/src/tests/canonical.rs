@@ -6,6 +6,7 @@ use super::random::{self, Alphabet};
 use crate::calculus::{Calculus, Verdict};
 use crate::semantics::{first_broken, selected, separating};
 use crate::syntax::{Concept, Schema, State};
+use std::collections::BTreeSet;
 
 /// The objects that the record limits leave room for by their own count.
 const MOST_OBJECTS: usize = 463;
@@ -51,10 +52,16 @@ fn run(prng: &mut Prng, alphabet: Alphabet, schema: &Schema) -> Run {
     }
 }
 
+/// Whether two constants name the same object.
+fn shares(state: &State) -> bool {
+    let objects: BTreeSet<usize> = state.constants.iter().copied().collect();
+    objects.len() < state.constants.len()
+}
+
 #[test]
 fn canonical_states_bear_the_verdicts_out() {
     let mut prng = Prng::new(21);
-    let (mut held, mut open) = (0, 0);
+    let (mut held, mut open, mut merging) = (0, 0, 0);
     for _ in 0..150 {
         let alphabet = alphabet(&mut prng);
         let axioms = if prng.chance(50) { 12 } else { 97 };
@@ -65,10 +72,10 @@ fn canonical_states_bear_the_verdicts_out() {
         let legal: Vec<&State> = legal
             .filter(|state| first_broken(&schema, state).is_none())
             .collect();
-        open += runs
-            .iter()
-            .filter(|run| run.verdict == Verdict::Open)
-            .count();
+        for run in runs.iter().filter(|run| run.verdict == Verdict::Open) {
+            open += 1;
+            merging += usize::from(shares(&run.state));
+        }
         for run in runs.iter().filter(|run| run.verdict == Verdict::Held) {
             held += 1;
             for state in &legal {
@@ -78,9 +85,10 @@ fn canonical_states_bear_the_verdicts_out() {
             }
         }
     }
-    println!("held {held}, open {open}");
+    println!("held {held}, open {open}, merging {merging}");
     assert!(held >= 200, "{held} held");
     assert!(open >= 200, "{open} open");
+    assert!(merging >= 50, "{merging} merging");
 }
 
 #[test]

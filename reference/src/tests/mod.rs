@@ -8,6 +8,7 @@ mod catalogue;
 mod concept_refusals;
 mod lent_words;
 mod links;
+mod loose;
 mod names;
 mod order_of_checks;
 mod patient;

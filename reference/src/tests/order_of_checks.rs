@@ -1,6 +1,6 @@
 //! The order in which what one call passes is checked.
 
-use super::write::{axioms_record, catalogue_record, record};
+use super::write::{axioms_record, catalogue_record, loose_record, record};
 use crate::calculus::Verdict;
 use crate::entries::{catalogue, check_concept, check_view, counterexample, decide, holds, legal};
 use crate::entries::{links_by_first, links_by_second, select, Counterexample};
@@ -23,6 +23,11 @@ fn bad_axiom() -> Vec<u16> {
     axioms_record([1, 0, 1], &[(0, 0)])
 }
 
+/// With a bad axiom as well.
+fn bad_loose() -> Vec<u16> {
+    loose_record([1, 0, 1], 0b10, &[(0, 0)])
+}
+
 fn state() -> Vec<u16> {
     record(&[1, 1], &[(32 * 512, 0)])
 }
@@ -33,20 +38,28 @@ fn the_schema_comes_first() {
         assert_eq!(check(&[], &[]), Err(1));
         assert_eq!(check(&bad_axiom(), &[]), Err(2));
         assert_eq!(check(&bad_axiom(), &BAD_STEPS), Err(2));
+        assert_eq!(check(&bad_loose(), &[]), Err(14));
     }
     assert_eq!(select(&[], &[], &[], &mut []), Err(1));
     assert_eq!(select(&bad_axiom(), &[], &[], &mut []), Err(2));
+    assert_eq!(select(&bad_loose(), &[], &[], &mut []), Err(14));
     assert_eq!(legal(&bad_axiom(), &[]), Err(2));
+    assert_eq!(legal(&bad_loose(), &[]), Err(14));
     assert_eq!(counterexample(&[1], &[], &[], &[]), Err(1));
+    assert_eq!(counterexample(&bad_loose(), &[], &[], &[]), Err(14));
     for links in [links_by_first, links_by_second] {
         assert_eq!(links(&[], &[], &[], ATTRIBUTE), Err(1));
         assert_eq!(links(&bad_axiom(), &[], &[], ATTRIBUTE), Err(2));
+        assert_eq!(links(&bad_loose(), &[], &[], ATTRIBUTE), Err(14));
     }
     assert_eq!(decide(&bad_axiom(), &[], &[], 0), Err(2));
+    assert_eq!(decide(&bad_loose(), &[], &[], 0), Err(14));
     assert_eq!(holds(&[], &[], &[]), Err(1));
     assert_eq!(holds(&bad_axiom(), &[], &[]), Err(2));
+    assert_eq!(holds(&bad_loose(), &[], &[]), Err(14));
     assert_eq!(catalogue(&[], &[], &mut [], &mut []), Err(1));
     assert_eq!(catalogue(&bad_axiom(), &[], &mut [], &mut []), Err(2));
+    assert_eq!(catalogue(&bad_loose(), &[], &mut [], &mut []), Err(14));
 }
 
 /// Each refusal is looked for before the next: a record with several faults.

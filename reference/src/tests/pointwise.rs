@@ -54,7 +54,9 @@ fn random_state(prng: &mut Prng) -> State {
         attributes: (0..ALPHABET.attributes)
             .map(|_| all_pairs(objects).filter(|_| prng.chance(30)).collect())
             .collect(),
-        constants: vec![objects - 1, 0],
+        constants: (0..ALPHABET.constants)
+            .map(|_| prng.below(objects))
+            .collect(),
     }
 }
 
@@ -62,7 +64,7 @@ fn random_state(prng: &mut Prng) -> State {
 fn sets_and_formulas_agree() {
     let mut prng = Prng::new(31);
     let (mut inside, mut outside) = (0, 0);
-    for _ in 0..2000 {
+    for _ in 0..3000 {
         let state = random_state(&mut prng);
         let concept = random::concept(&mut prng, ALPHABET, 4);
         for (object, mark) in selected(&state, &concept).into_iter().enumerate() {

@@ -16,6 +16,9 @@ pub fn schema(prng: &mut Prng, alphabet: Alphabet, axioms: usize) -> Schema {
         classes: alphabet.classes,
         attributes: alphabet.attributes,
         constants: alphabet.constants,
+        loose: (0..alphabet.constants)
+            .filter(|_| prng.chance(50))
+            .collect(),
         axioms: (0..axioms).map(|_| axiom(prng, alphabet)).collect(),
     }
 }
@@ -67,17 +70,17 @@ fn fits(concept: &Concept, steps: usize) -> bool {
 }
 
 fn any(prng: &mut Prng, alphabet: Alphabet, steps: &mut usize, depth: usize) -> Concept {
-    let sorts = if depth == 0 { 4 } else { 12 };
+    let sorts = if depth == 0 { 6 } else { 14 };
     match prng.below(sorts) {
         0..=1 => Concept::Class(prng.below(alphabet.classes)),
         2 => Concept::Everything,
-        3 if alphabet.constants > 0 => Concept::Constant(prng.below(alphabet.constants)),
-        3 => Concept::Class(prng.below(alphabet.classes)),
-        4..=6 => Concept::Both(
+        3..=5 if alphabet.constants > 0 => Concept::Constant(prng.below(alphabet.constants)),
+        3..=5 => Concept::Class(prng.below(alphabet.classes)),
+        6..=8 => Concept::Both(
             Box::new(any(prng, alphabet, steps, depth - 1)),
             Box::new(any(prng, alphabet, steps, depth - 1)),
         ),
-        7..=9 => Concept::Reached(path(prng, alphabet, steps, depth - 1)),
+        9..=11 => Concept::Reached(path(prng, alphabet, steps, depth - 1)),
         _ => Concept::Common(
             path(prng, alphabet, steps, depth - 1),
             path(prng, alphabet, steps, depth - 1),

@@ -28,18 +28,23 @@ fn schemas_and_concepts() {
 #[test]
 fn states() {
     let mut prng = Prng::new(2);
-    let schema = random::schema(&mut prng, ALPHABET, 0);
     for _ in 0..100 {
+        let schema = random::schema(&mut prng, ALPHABET, 0);
         let objects = 5 + prng.below(476);
         let classes = (0..24).map(|_| (0..objects).filter(|_| prng.chance(5)).collect());
         let classes = classes.collect();
         let mut pair = || (prng.below(objects), prng.below(objects));
         let attributes = (0..8).map(|_| (0..20).map(|_| pair()).collect()).collect();
+        let mut constants = vec![3, 1, 0, objects - 1];
+        // Some of them share objects with others then.
+        for &loose in &schema.loose {
+            constants[loose] = prng.below(4);
+        }
         let state = State {
             objects,
             classes,
             attributes,
-            constants: vec![3, 1, 0, objects - 1],
+            constants,
         };
         assert_eq!(records::state(&write::state(&state), &schema), Ok(state));
     }

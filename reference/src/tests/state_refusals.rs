@@ -1,6 +1,6 @@
 //! Refusals 7 to 10 and the state's limits.
 
-use super::write::{axioms_record, fact, record};
+use super::write::{axioms_record, fact, loose_record, record};
 use crate::entries::select;
 use crate::records::{schema, state};
 
@@ -8,7 +8,12 @@ use crate::records::{schema, state};
 const SIZES: [u16; 3] = [2, 1, 2];
 
 fn refusal_under(sizes: [u16; 3], words: &[u16]) -> u16 {
-    let schema = schema(&axioms_record(sizes, &[])).expect("an alphabet without axioms");
+    loose_refusal(sizes, 0, words)
+}
+
+/// The refusal where the constants are loose that the word marks.
+fn loose_refusal(sizes: [u16; 3], loose: u16, words: &[u16]) -> u16 {
+    let schema = schema(&loose_record(sizes, loose, &[])).expect("an alphabet without axioms");
     state(words, &schema).err().unwrap_or(0)
 }
 
@@ -132,6 +137,66 @@ fn constants() {
     assert_eq!(facts_refusal(&[fact(32, 1, 0), fact(33, 1, 0)]), 10);
     assert_eq!(facts_refusal(&[fact(32, 1, 0), fact(33, 0, 0)]), 0);
     assert_eq!(refusal_under(SIZES, &[0, 0]), 10);
+}
+
+/// The refusal of a state of five objects whose constants, of which those are
+/// loose that the word marks, name these.
+fn naming_refusal(loose: u16, objects: &[usize]) -> u16 {
+    let facts = (32..).zip(objects);
+    let facts: Vec<(u16, u16)> = facts.map(|(kind, &object)| fact(kind, object, 0)).collect();
+    let constants = objects.len() as u16;
+    loose_refusal([0, 0, constants], loose, &record(&[5, constants], &facts))
+}
+
+#[test]
+fn two_constants_share_an_object_if_one_is_loose() {
+    for loose in 0..16 {
+        assert_eq!(naming_refusal(loose, &[3, 0, 4, 1]), 0, "{loose:b}");
+        for one in 0..4 {
+            for other in (0..4).filter(|&other| other != one) {
+                let mut objects = [3, 0, 4, 1];
+                objects[one] = objects[other];
+                let expected = match loose >> one & 1 | loose >> other & 1 {
+                    1 => 0,
+                    _ => 10,
+                };
+                let refusal = naming_refusal(loose, &objects);
+                assert_eq!(refusal, expected, "{loose:b}, {objects:?}");
+            }
+        }
+    }
+}
+
+/// A loose constant does not make two others that share its object one.
+#[test]
+fn all_constants_share_an_object_if_one_at_most_is_not_loose() {
+    for constants in 1..=4 {
+        for loose in 0_u16..1 << constants {
+            let others = constants - loose.count_ones() as usize;
+            let expected = if others <= 1 { 0 } else { 10 };
+            let refusal = naming_refusal(loose, &vec![2; constants]);
+            assert_eq!(refusal, expected, "{constants}, {loose:b}");
+        }
+    }
+}
+
+/// One that is loose has exactly one object all the same.
+#[test]
+fn loose_constants_have_one_object_each() {
+    let refusal = |facts: &[_]| {
+        let words = record(&[3, facts.len() as u16], facts);
+        loose_refusal(SIZES, 0b11, &words)
+    };
+    assert_eq!(refusal(&[]), 10);
+    for constant in [32, 33] {
+        assert_eq!(refusal(&[fact(constant, 0, 0)]), 10);
+    }
+    let several = [fact(32, 0, 0), fact(32, 1, 0), fact(33, 0, 0)];
+    assert_eq!(refusal(&several), 10);
+    let several = [fact(32, 1, 0), fact(33, 0, 0), fact(33, 1, 0)];
+    assert_eq!(refusal(&several), 10);
+    assert_eq!(refusal(&[fact(32, 1, 0), fact(33, 1, 0)]), 0);
+    assert_eq!(loose_refusal(SIZES, 0b11, &[0, 0]), 10);
 }
 
 #[test]

@@ -13,14 +13,20 @@ pub fn record(sizes: &[u16], pairs: &[(u16, u16)]) -> Vec<u16> {
 pub fn schema(schema: &Schema) -> Vec<u16> {
     let axioms: Vec<(u16, u16)> = schema.axioms.iter().map(axiom).collect();
     let declared = [schema.classes, schema.attributes, schema.constants];
-    axioms_record(declared.map(word), &axioms)
+    let loose = schema.loose.iter().map(|constant| 1 << constant).sum();
+    loose_record(declared.map(word), loose, &axioms)
 }
 
-/// A schema record that declares so many classes, attributes and constants,
-/// from its axioms, which it counts.
+/// A schema record that declares so many classes, attributes and constants, none
+/// of them loose, from its axioms, which it counts.
 pub fn axioms_record(declared: [u16; 3], axioms: &[(u16, u16)]) -> Vec<u16> {
+    loose_record(declared, 0, axioms)
+}
+
+/// The same with the constants loose that the word marks.
+pub fn loose_record(declared: [u16; 3], loose: u16, axioms: &[(u16, u16)]) -> Vec<u16> {
     let [classes, attributes, constants] = declared;
-    let sizes = [classes, attributes, constants, word(axioms.len())];
+    let sizes = [classes, attributes, constants, word(axioms.len()), loose];
     record(&sizes, axioms)
 }
 
