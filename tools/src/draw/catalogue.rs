@@ -9,7 +9,7 @@ use crate::call::{Call, Entry};
 use crate::prng::Prng;
 use bikuvoa::layout::token::{self, BOTH, EMPTY, EVERYTHING, REACHED};
 use bikuvoa::layout::{self, Pair, Signature};
-use bikuvoa::layout::{MAX_CLASSES, MAX_TOKENS, MAX_VIEWS, VIEW_STEPS};
+use bikuvoa::layout::{MAX_CLASSES, MAX_CONSTANTS, MAX_TOKENS, MAX_VIEWS, VIEW_STEPS};
 use reference::records;
 
 /// A schema and views, as the entries of their records.
@@ -23,9 +23,9 @@ pub struct Catalogue {
 impl Catalogue {
     pub fn random(prng: &mut Prng) -> Self {
         let triple = Triple::random(prng);
-        let count = match prng.below(4) {
-            0 => prng.between(1, 4),
-            1 => MAX_VIEWS,
+        let count = match prng.below(10) {
+            0..=2 => prng.between(1, 4),
+            3..=4 => MAX_VIEWS,
             _ => prng.between(1, MAX_VIEWS),
         };
         match prng.below(6) {
@@ -49,11 +49,9 @@ impl Catalogue {
     /// Views that mostly ask for a class more than the one before, of so many
     /// classes that a chain may have all of them.
     fn chained(prng: &mut Prng, count: usize) -> Self {
-        let signature = Signature {
-            classes: MAX_CLASSES,
-            attributes: 1 + prng.word_below(3),
-            constants: prng.word_below(3),
-        };
+        let attributes = 1 + prng.word_below(3);
+        let constants = prng.word_below(MAX_CONSTANTS + 1);
+        let signature = schema::declaring(prng, [MAX_CLASSES, attributes, constants]);
         let axioms = schema::axioms(prng, signature, Scale::Small);
         let mut classes: Vec<u16> = (0..signature.classes).collect();
         prng.shuffle(&mut classes);

@@ -35,11 +35,16 @@ pub(super) fn budget(prng: &mut Prng, scale: Scale) -> usize {
 
 /// A concept that asks nothing but a class, a constant or nothing at all.
 fn leaf(prng: &mut Prng, signature: Signature) -> Pair {
-    match prng.below(10) {
-        0..=6 if signature.classes > 0 => token::class(prng.word_below(signature.classes)),
-        7..=8 if signature.constants > 0 => token::constant(prng.word_below(signature.constants)),
+    match prng.below(12) {
+        0..=7 if signature.classes > 0 => token::class(prng.word_below(signature.classes)),
+        8..=10 if signature.constants > 0 => constant(prng, signature),
         _ => EVERYTHING,
     }
+}
+
+/// Any of the constants, of which there must be one.
+fn constant(prng: &mut Prng, signature: Signature) -> Pair {
+    token::constant(prng.word_below(signature.constants))
 }
 
 struct Draft<'a> {
@@ -69,6 +74,12 @@ impl Draft<'_> {
                 self.path(left);
                 self.path(budget - 1 - left);
                 self.tokens.push(COMMON);
+            }
+            // Two constants at once, so that they are one object or clash.
+            _ if budget >= 3 && self.signature.constants > 1 && self.prng.chance(40) => {
+                let two = [(); 2].map(|()| constant(self.prng, self.signature));
+                self.tokens.extend(two);
+                self.tokens.push(BOTH);
             }
             _ => self.tokens.push(leaf(self.prng, self.signature)),
         }

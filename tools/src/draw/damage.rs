@@ -6,7 +6,7 @@ use crate::call::{Call, Place};
 use crate::prng::Prng;
 use crate::word;
 use bikuvoa::layout::token::{self, EMPTY, EVERYTHING, REACHED};
-use bikuvoa::layout::{self, Layout, Signature, CONCEPT, QUERY_STEPS, VIEW_STEPS};
+use bikuvoa::layout::{self, fact, Layout, Signature, CONCEPT, QUERY_STEPS, STATE, VIEW_STEPS};
 use bikuvoa::layout::{MAX_ATTRIBUTES, MAX_CLASSES, MAX_CONSTANTS, MAX_OBJECTS, MAX_VIEWS};
 
 /// Damages what stands at the place.
@@ -19,11 +19,20 @@ pub fn damage(prng: &mut Prng, call: &mut Call, place: Place) {
 }
 
 fn damage_record(prng: &mut Prng, place: Place, layout: &Layout, words: &mut Vec<u16>) {
+    // What is marked as loose is looked at after a schema's shape and before its
+    // axioms, so it is damaged alone and beside them.
+    if place == Place::Schema && prng.chance(25) {
+        mark_another(prng, words);
+        if prng.chance(50) {
+            return;
+        }
+    }
     match prng.below(12) {
         0..=2 => flip_word(prng, layout.sizes, words),
         3 => cut(prng, words),
         4 => lengthen(prng, words),
         5 => *words = random_words(prng),
+        6..=7 if place == Place::State => name_otherwise(prng, words),
         6..=8 => alter_entries(prng, layout, words),
         9 => fill(prng, layout, words),
         _ => reach_limit(prng, place, words),
@@ -61,7 +70,9 @@ fn damage_catalogue(prng: &mut Prng, words: &mut Vec<u16>) {
         6 => lengthen_by_words(prng, words, views.len()),
         7 => *words = layout::catalogue(&[[0; 0]; 0]),
         8..=9 => {
-            damage_views(prng, &mut views);
+            if prng.chance(50) {
+                damage_views(prng, &mut views);
+            }
             let last = views[views.len() - 1].clone();
             views.resize(MAX_VIEWS + prng.below(2), last);
             *words = layout::catalogue(&views);
@@ -128,6 +139,16 @@ fn flip_word(prng: &mut Prng, sizes: usize, words: &mut [u16]) {
     };
 }
 
+/// Marks another constant as loose, or no longer: the lowest that is not declared,
+/// the highest that can be marked, or any.
+fn mark_another(prng: &mut Prng, words: &mut [u16]) {
+    if let [_, _, constants, _, loose, ..] = words {
+        let highest = u16::BITS as u16 - 1;
+        let any = prng.word_below(highest + 1);
+        *loose ^= 1 << prng.one_of([highest.min(*constants), highest, any]);
+    }
+}
+
 fn cut(prng: &mut Prng, words: &mut Vec<u16>) {
     let most = if prng.chance(50) {
         words.len()
@@ -175,6 +196,29 @@ fn fill(prng: &mut Prng, layout: &Layout, words: &mut Vec<u16>) {
     let last = entries.last().copied().unwrap_or((0, 0));
     entries.resize(layout.max + prng.below(2), last);
     *words = layout.record(words, &entries);
+}
+
+/// Has a constant name no object, two, or that of another constant, which only two
+/// that are not loose may not share.
+fn name_otherwise(prng: &mut Prng, words: &mut Vec<u16>) {
+    let Some(mut facts) = STATE.entries(words).map(Vec::from_iter) else {
+        return lengthen(prng, words);
+    };
+    let is_name = |&place: &usize| fact::kind(facts[place]) >= fact::CONSTANT_KINDS;
+    let mut names: Vec<usize> = (0..facts.len()).filter(is_name).collect();
+    prng.shuffle(&mut names);
+    let (Some(&one), Some(&other)) = (names.first(), names.last()) else {
+        return lengthen(prng, words);
+    };
+    let constant = fact::kind(facts[one]) - fact::CONSTANT_KINDS;
+    let name = fact::name(constant, fact::object(facts[other]));
+    match prng.below(4) {
+        0 => drop(facts.remove(one)),
+        1 => facts.push(name),
+        _ => facts[one] = name,
+    }
+    facts.sort_unstable();
+    *words = STATE.record(words, &facts);
 }
 
 /// A size word at its limit or one above it; for a concept, a path of as many

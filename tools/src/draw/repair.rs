@@ -38,7 +38,8 @@ pub(super) fn repair(
     Ok(())
 }
 
-/// A legal state with an object in the query, and that object.
+/// A legal state with an object in the query, and that object. Where values may be
+/// any objects, loose constants may be as well.
 pub(super) fn model(
     signature: Signature,
     schema: &Schema,
@@ -47,6 +48,9 @@ pub(super) fn model(
     prng: &mut Prng,
 ) -> Result<(Sketch, usize), Clash> {
     let mut sketch = Sketch::new(signature);
+    if values == Values::Any {
+        sketch.share(prng);
+    }
     let start = sketch.add_object();
     sketch.put(start, query)?;
     repair(&mut sketch, schema, values, prng)?;

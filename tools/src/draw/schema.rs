@@ -7,18 +7,32 @@ use bikuvoa::layout::{MAX_ATTRIBUTES, MAX_AXIOMS, MAX_CLASSES, MAX_CONSTANTS};
 
 /// A large triple may still have a small signature, where it all comes together.
 pub(super) fn signature(prng: &mut Prng, scale: Scale) -> Signature {
-    if scale == Scale::Small || prng.chance(50) {
-        Signature {
-            classes: 1 + prng.word_below(4),
-            attributes: 1 + prng.word_below(3),
-            constants: prng.word_below(3),
-        }
+    let (classes, attributes) = if scale == Scale::Small || prng.chance(50) {
+        (1 + prng.word_below(4), 1 + prng.word_below(3))
     } else {
-        Signature {
-            classes: prng.word_below(MAX_CLASSES + 1),
-            attributes: prng.word_below(MAX_ATTRIBUTES + 1),
-            constants: prng.word_below(MAX_CONSTANTS + 1),
-        }
+        let classes = prng.word_below(MAX_CLASSES + 1);
+        (classes, prng.word_below(MAX_ATTRIBUTES + 1))
+    };
+    let constants = prng.word_below(MAX_CONSTANTS + 1);
+    declaring(prng, [classes, attributes, constants])
+}
+
+/// So many classes, attributes and constants. Of the constants mostly some are
+/// loose, and now and then none or all.
+pub(super) fn declaring(prng: &mut Prng, declared: [u16; 3]) -> Signature {
+    let [classes, attributes, constants] = declared;
+    let all = (1 << constants) - 1;
+    let loose = match prng.below(6) {
+        0 => 0,
+        1.. if all == 0 => 0,
+        1 => all,
+        _ => 1 + prng.word_below(all),
+    };
+    Signature {
+        classes,
+        attributes,
+        constants,
+        loose,
     }
 }
 

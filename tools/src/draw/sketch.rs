@@ -7,7 +7,7 @@ use bikuvoa::layout::{fact, Signature};
 use reference::syntax::{Concept, Direction, Path};
 use std::collections::BTreeSet;
 
-/// Two constants would be one object.
+/// Two constants, neither of them loose, would be one object.
 #[derive(Debug)]
 pub(super) struct Clash;
 
@@ -89,9 +89,17 @@ impl Sketch {
         self.pairs.iter().copied().collect()
     }
 
-    /// The constant that names the object, if one does.
-    pub(super) fn name(&self, object: usize) -> Option<usize> {
-        self.constants.iter().position(|&named| named == object)
+    /// The constants that name the object.
+    pub(super) fn names(&self, object: usize) -> impl Iterator<Item = u16> + '_ {
+        let constants = (0..).zip(&self.constants);
+        let names = constants.filter(move |&(_, &named)| named == object);
+        names.map(|(constant, _)| constant)
+    }
+
+    /// Whether a constant names the object that is not loose.
+    fn is_fixed(&self, object: usize) -> bool {
+        self.names(object)
+            .any(|constant| !self.signature.is_loose(constant))
     }
 
     /// Makes two objects one.
@@ -100,7 +108,7 @@ impl Sketch {
         if one == other {
             return Ok(());
         }
-        if self.name(one).is_some() && self.name(other).is_some() {
+        if self.is_fixed(one) && self.is_fixed(other) {
             return Err(Clash);
         }
         let rename = |object| if object == other { one } else { object };
@@ -115,6 +123,19 @@ impl Sketch {
             *named = rename(*named);
         }
         Ok(())
+    }
+
+    /// Has some loose constants name the objects of others.
+    pub(super) fn share(&mut self, prng: &mut Prng) {
+        for constant in 0..self.signature.constants {
+            if self.signature.is_loose(constant) && prng.chance(40) {
+                let one = self.constants[usize::from(constant)];
+                let other = self.constants[prng.below(self.constants.len())];
+                // What is the object of another one already may not become this
+                // one as well; then it stays as it is.
+                let _ = self.merge(one, other);
+            }
+        }
     }
 
     /// Adds what puts the object in the concept, with new objects at the ends

@@ -56,7 +56,8 @@ pub fn large(prng: &mut Prng, signature: Signature, schema: &Schema, query: &Con
 }
 
 /// As large as a record can be: every object in all classes and its own value
-/// of every attribute, with random pairs for the rest of the facts.
+/// of every attribute, with random pairs for the rest of the facts. A loose
+/// constant names the object of any constant.
 pub(super) fn full(prng: &mut Prng, signature: Signature) -> State {
     let mut facts = Vec::new();
     for object in 0..MAX_OBJECTS {
@@ -64,7 +65,14 @@ pub(super) fn full(prng: &mut Prng, signature: Signature) -> State {
         let own = |attribute| fact::pair(attribute, object, object);
         facts.extend((0..signature.attributes).map(own));
     }
-    facts.extend((0..signature.constants).map(|constant| fact::name(constant, constant)));
+    for constant in 0..signature.constants {
+        let object = if signature.is_loose(constant) {
+            prng.word_below(signature.constants)
+        } else {
+            constant
+        };
+        facts.push(fact::name(constant, object));
+    }
     let mut state = State::new(OBJECTS, facts);
     while signature.attributes > 0 && state.facts.len() < MAX_FACTS {
         for _ in state.facts.len()..MAX_FACTS {
@@ -76,8 +84,8 @@ pub(super) fn full(prng: &mut Prng, signature: Signature) -> State {
     state
 }
 
-/// A few objects. Where a repair fails because two constants would be one
-/// object, the facts stay as they were scattered.
+/// A few objects. Where a repair fails because two constants that are not loose
+/// would be one object, the facts stay as they were scattered.
 fn small(prng: &mut Prng, signature: Signature, schema: &Schema, query: &Concept) -> State {
     let sketch = scattered(prng, signature, 8);
     match prng.below(10) {
@@ -102,23 +110,23 @@ fn scattered(prng: &mut Prng, signature: Signature, most: usize) -> Sketch {
     for _ in sketch.objects().len()..prng.between(0, most) {
         sketch.add_object();
     }
-    let objects = sketch.objects().len();
+    sketch.share(prng);
+    let objects = sketch.objects();
     for class in 0..signature.classes {
         let percent = prng.below(100);
-        for object in 0..objects {
+        for &object in &objects {
             if prng.chance(percent) {
                 sketch.enter(object, class.into());
             }
         }
     }
-    if objects > 0 {
-        for attribute in 0..signature.attributes {
-            // Even with all objects in all classes, so many pairs are not too
-            // many for a record.
-            let most = OBJECTS.min(2 * objects);
-            for _ in 0..prng.between(0, most) {
-                sketch.relate(attribute, prng.below(objects), prng.below(objects));
-            }
+    for attribute in 0..signature.attributes {
+        // Even with all objects in all classes, so many pairs are not too many for
+        // a record.
+        let most = OBJECTS.min(2 * objects.len());
+        for _ in 0..prng.between(0, most) {
+            let [first, second] = [(); 2].map(|()| objects[prng.below(objects.len())]);
+            sketch.relate(attribute, first, second);
         }
     }
     sketch

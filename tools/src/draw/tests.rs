@@ -6,7 +6,7 @@ use super::triple::Triple;
 use super::{attribute, state, wide};
 use crate::call::Entry;
 use crate::prng::Prng;
-use bikuvoa::layout;
+use bikuvoa::layout::{self, Signature};
 use reference::entries::{catalogue, holds, legal, select, CATALOGUE_WORDS};
 use reference::records;
 use reference::semantics::{first_broken, selected};
@@ -87,6 +87,30 @@ fn attributes_are_declared_or_not() {
     );
 }
 
+/// None of the constants, some or all, and never one that is not declared.
+#[test]
+fn constants_are_loose_or_not() {
+    let mut prng = Prng::new(38);
+    let (mut none, mut some, mut all) = (0, 0, 0);
+    for _ in 0..DRAWS {
+        let Signature {
+            constants, loose, ..
+        } = Triple::random(&mut prng).signature;
+        let declared = (1 << constants) - 1;
+        assert_eq!(loose & !declared, 0);
+        match loose {
+            0 => none += 1,
+            _ if loose == declared => all += 1,
+            _ => some += 1,
+        }
+    }
+    let is_common = |part| part * 8 > DRAWS;
+    assert!(
+        [none, some, all].into_iter().all(is_common) && none * 2 < DRAWS,
+        "{none}, {some}, {all}"
+    );
+}
+
 #[test]
 fn models_are_legal_and_have_the_query() {
     let mut prng = Prng::new(33);
@@ -134,10 +158,11 @@ fn concepts_read_off_a_model_have_its_object() {
 #[test]
 fn the_full_state_has_all_facts() {
     let mut prng = Prng::new(35);
-    let signature = layout::Signature {
+    let signature = Signature {
         classes: layout::MAX_CLASSES,
         attributes: layout::MAX_ATTRIBUTES,
         constants: layout::MAX_CONSTANTS,
+        loose: 0,
     };
     let state = state::full(&mut prng, signature);
     assert_eq!(state.facts.len(), layout::MAX_FACTS);

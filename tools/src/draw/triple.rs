@@ -32,11 +32,8 @@ impl Triple {
     /// As `random`, with all the classes, attributes and constants that there may
     /// be, and of any size that records may have.
     pub fn of_all_names(prng: &mut Prng) -> Self {
-        let signature = Signature {
-            classes: MAX_CLASSES,
-            attributes: MAX_ATTRIBUTES,
-            constants: MAX_CONSTANTS,
-        };
+        let declared = [MAX_CLASSES, MAX_ATTRIBUTES, MAX_CONSTANTS];
+        let signature = schema::declaring(prng, declared);
         Triple::random_over(prng, signature, Scale::Large)
     }
 
@@ -79,14 +76,18 @@ impl Triple {
         }
     }
 
-    /// The triple without one axiom, or with one token altered.
+    /// The triple without one axiom, with one token altered, or with one constant
+    /// loose that was not, or not loose that was.
     pub fn near_miss(&self, prng: &mut Prng) -> Self {
         let mut near = self.clone();
-        match prng.below(6) {
+        match prng.below(7) {
             0..=1 if !near.axioms.is_empty() => {
                 near.axioms.remove(prng.below(near.axioms.len()));
             }
-            2 => alter_token(prng, near.signature, &mut near.query),
+            2 if near.signature.constants > 0 => {
+                near.signature.loose ^= 1 << prng.word_below(near.signature.constants);
+            }
+            3 => alter_token(prng, near.signature, &mut near.query),
             _ => alter_token(prng, near.signature, &mut near.view),
         }
         near

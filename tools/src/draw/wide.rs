@@ -1,10 +1,12 @@
 //! Triples whose counterexamples are large: a query of many steps to objects
 //! that need every attribute, and a view that follows the needs of each.
 
+use super::schema;
 use super::triple::Triple;
 use crate::prng::Prng;
 use bikuvoa::layout::token::{self, BOTH, EMPTY, EVERYTHING, REACHED};
-use bikuvoa::layout::{axiom, Pair, Signature, MAX_ATTRIBUTES, QUERY_STEPS, VIEW_STEPS};
+use bikuvoa::layout::{axiom, Pair, Signature, QUERY_STEPS, VIEW_STEPS};
+use bikuvoa::layout::{MAX_ATTRIBUTES, MAX_CONSTANTS};
 
 /// The class with the needs, and the class on which the view may land.
 const NEEDY: u16 = 0;
@@ -16,11 +18,8 @@ const STRETCH: usize = 4;
 
 /// A triple that is often open, with a state of hundreds of objects.
 pub fn triple(prng: &mut Prng) -> Triple {
-    let signature = Signature {
-        classes: 2,
-        attributes: MAX_ATTRIBUTES,
-        constants: prng.word_below(3),
-    };
+    let constants = prng.word_below(MAX_CONSTANTS + 1);
+    let signature = schema::declaring(prng, [2, MAX_ATTRIBUTES, constants]);
     Triple {
         signature,
         axioms: axioms(prng, signature),

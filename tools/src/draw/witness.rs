@@ -4,7 +4,6 @@
 
 use super::sketch::Sketch;
 use crate::prng::Prng;
-use crate::word;
 use bikuvoa::layout::token::{self, BACKWARD, BOTH, COMMON, EMPTY, EVERYTHING, FORWARD, REACHED};
 use bikuvoa::layout::Pair;
 
@@ -70,11 +69,7 @@ impl Witness<'_> {
             .filter(|&class| self.sketch.is_in(object, class.into()))
             .map(token::class)
             .collect();
-        leaves.extend(
-            self.sketch
-                .name(object)
-                .map(|name| token::constant(word(name))),
-        );
+        leaves.extend(self.sketch.names(object).map(token::constant));
         match self.prng.pick(&leaves) {
             Some(leaf) if self.prng.chance(90) => leaf,
             _ => EVERYTHING,

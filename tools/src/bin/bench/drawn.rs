@@ -30,8 +30,7 @@ pub fn calls(entry: Entry) -> Vec<Call> {
     calls.collect()
 }
 
-/// A few of the states go up to the limits. With this seed each triple declares
-/// an attribute, without which a count of links would be refused.
+/// A few of the states go up to the limits.
 fn call(
     prng: &mut Prng,
     attributes: &mut Prng,
@@ -51,11 +50,17 @@ fn call(
 }
 
 /// Half of the triples have a view that has to do with the query, as those that
-/// are put to a store will have, and a few need states of hundreds of objects.
+/// are put to a store will have, and a few need states of hundreds of objects. One
+/// without attributes is drawn anew, since a count of links would be refused.
 fn triple(prng: &mut Prng, place: usize) -> Triple {
-    match (place % 50, place % 2) {
-        (0, _) => wide::triple(prng),
-        (_, 0) => Triple::random(prng),
-        _ => Triple::followed(prng),
+    loop {
+        let triple = match (place % 50, place % 2) {
+            (0, _) => wide::triple(prng),
+            (_, 0) => Triple::random(prng),
+            _ => Triple::followed(prng),
+        };
+        if triple.signature.attributes > 0 {
+            return triple;
+        }
     }
 }

@@ -14,6 +14,7 @@ pub fn straps() -> Vec<u16> {
         classes: 2,
         attributes: 1,
         constants: 1,
+        loose: 0,
     };
     let axioms = [single(PERSON, WEARS), relates(WEARS, PERSON, STRAP)];
     schema(signature, &axioms)
@@ -25,6 +26,7 @@ pub fn need() -> Vec<u16> {
         classes: 2,
         attributes: 1,
         constants: 0,
+        loose: 0,
     };
     schema(signature, &[necessary(PERSON, WEARS)])
 }
@@ -34,6 +36,7 @@ pub const MEDICAL: Signature = Signature {
     classes: 9,
     attributes: 5,
     constants: 0,
+    loose: 0,
 };
 pub const PATIENT: u16 = 0;
 pub const HUMAN: u16 = 1;
@@ -72,6 +75,7 @@ pub fn dense() -> Vec<u16> {
         classes: 2,
         attributes: 1,
         constants: 0,
+        loose: 0,
     };
     schema(signature, &[relates(0, 0, 1), necessary(0, 0)])
 }
@@ -80,6 +84,7 @@ pub const LARGEST: Signature = Signature {
     classes: MAX_CLASSES,
     attributes: MAX_ATTRIBUTES,
     constants: MAX_CONSTANTS,
+    loose: 0,
 };
 /// The class of the largest schema that nothing is forced into.
 pub const FREE: u16 = MAX_CLASSES - 1;

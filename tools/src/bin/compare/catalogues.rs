@@ -1,5 +1,6 @@
 //! Random catalogues.
 
+use crate::schemas::Schemas;
 use crate::verify::{verify, Difference};
 use bikuvoa::layout::MAX_VIEWS;
 use std::fmt;
@@ -11,6 +12,7 @@ use tools::prng::Prng;
 /// out.
 #[derive(Default)]
 pub struct Tally {
+    pub schemas: Schemas,
     pub catalogues: usize,
     /// How many have as many views as there may be.
     pub full: usize,
@@ -35,7 +37,7 @@ impl fmt::Display for Tally {
             f,
             "catalogues: {}, of {MAX_VIEWS} views {}; pairs {}, held {}; groups {}, of more than \
              one view {}, of up to {}; chosen from several {}; chains of up to {} groups; not in \
-             order of the lowest view {}",
+             order of the lowest view {}; {}",
             self.catalogues,
             self.full,
             self.pairs,
@@ -45,7 +47,8 @@ impl fmt::Display for Tally {
             self.most,
             self.choices,
             self.deepest,
-            self.moved
+            self.moved,
+            self.schemas
         )
     }
 }
@@ -83,6 +86,7 @@ pub fn run(tested: &dyn Answerer, prng: &mut Prng, count: usize) -> Result<Tally
     let mut tally = Tally::default();
     while tally.catalogues < count {
         let catalogue = Catalogue::random(prng);
+        tally.schemas.count(catalogue.signature);
         let [rows, order] = [(); 2].map(|()| MAX_VIEWS + prng.below(4));
         let outcome = verify(tested, &catalogue.call(rows, order))?;
         let views = catalogue.views.len();

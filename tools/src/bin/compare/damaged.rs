@@ -1,5 +1,6 @@
 //! Damaged records at each place of each entry.
 
+use crate::schemas::Schemas;
 use crate::verify::{verify, Difference};
 use bikuvoa::Refusal;
 use std::fmt;
@@ -17,9 +18,11 @@ const REFUSALS: usize = Refusal::LAST.number() as usize;
 /// other ways.
 const VIEWS: usize = 4;
 
-/// How many calls got each number; 0 is damage that did no harm.
 #[derive(Default)]
 pub struct Tally {
+    /// As they were before they were damaged.
+    pub schemas: Schemas,
+    /// How many calls got each number; 0 is damage that did no harm.
     pub numbers: [usize; REFUSALS + 1],
 }
 
@@ -36,7 +39,7 @@ impl fmt::Display for Tally {
         for (number, calls) in (1..).zip(refused) {
             write!(f, ", refused as {number} {calls}")?;
         }
-        Ok(())
+        write!(f, "; {}", self.schemas)
     }
 }
 
@@ -46,6 +49,7 @@ pub fn run(tested: &dyn Answerer, prng: &mut Prng, count: usize) -> Result<Tally
     let mut tally = Tally::default();
     while tally.calls() < count {
         let triple = Triple::random(prng);
+        tally.schemas.count(triple.signature);
         for entry in Entry::ALL {
             let call = sound(prng, entry, &triple);
             for (first, &place) in entry.places().iter().enumerate() {

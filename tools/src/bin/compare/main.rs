@@ -7,6 +7,7 @@ mod damaged;
 mod names;
 mod outcome;
 mod report;
+mod schemas;
 mod shrink;
 mod states;
 mod triples;
@@ -16,6 +17,7 @@ mod verify;
 mod tests;
 
 use report::report;
+use schemas::Schemas;
 use shrink::shrink;
 use std::process::ExitCode;
 use tools::call::Call;
@@ -70,16 +72,30 @@ fn compare(seed: u64) -> Result<(), Box<Difference>> {
     println!("{names}");
     let catalogues = catalogues::run(&Proved, &mut prng.split(), CATALOGUES)?;
     println!("{catalogues}");
+    let schemas: Schemas = [
+        triples.schemas,
+        states.schemas,
+        damaged.schemas,
+        names.schemas,
+        catalogues.schemas,
+    ]
+    .into_iter()
+    .sum();
     println!(
-        "compare: seed {seed}, {} triples (held {}, open {}), {} states (legal {}), \
-         {} link counts (not 0 {}), {} damaged records, {} checked concepts \
+        "compare: seed {seed}, {} schemas (with loose constants {}), {} triples (held {}, open {}, \
+         of these with two constants of one object {}), {} states (legal {}, with two constants of \
+         one object {}), {} link counts (not 0 {}), {} damaged records, {} checked concepts \
          (accepted as views {}), {} catalogues (pairs held {}, groups of more than one view {}): \
          no difference",
+        schemas.drawn,
+        schemas.loose,
         triples.triples(),
         triples.held(),
         triples.open(),
+        triples.sharing,
         states.states,
         states.legal,
+        states.sharing,
         states.links,
         states.linked,
         damaged.calls(),

@@ -1,5 +1,6 @@
 //! The two checks on random concepts.
 
+use crate::schemas::Schemas;
 use crate::verify::{verify, Difference};
 use bikuvoa::layout::{self, Pair, MAX_ATTRIBUTES, MAX_CLASSES};
 use std::fmt;
@@ -19,6 +20,7 @@ pub struct Mix {
 
 #[derive(Default)]
 pub struct Tally {
+    pub schemas: Schemas,
     pub concepts: usize,
     /// How many of them are accepted as views too.
     pub views: usize,
@@ -53,8 +55,8 @@ impl fmt::Display for Tally {
     fn fmt(&self, f: &mut fmt::Formatter) -> fmt::Result {
         write!(
             f,
-            "names: concepts {}, accepted as views {}; classes ({}), attributes ({})",
-            self.concepts, self.views, self.classes, self.attributes
+            "names: concepts {}, accepted as views {}; classes ({}), attributes ({}); {}",
+            self.concepts, self.views, self.classes, self.attributes, self.schemas
         )
     }
 }
@@ -65,6 +67,7 @@ pub fn run(tested: &dyn Answerer, prng: &mut Prng, count: usize) -> Result<Tally
     let mut tally = Tally::default();
     while tally.concepts < count {
         for triple in [Triple::random(prng), Triple::of_all_names(prng)] {
+            tally.schemas.count(triple.signature);
             for concept in [&triple.query, &triple.view] {
                 check(tested, &triple, concept, &mut tally)?;
             }

@@ -1,7 +1,7 @@
 //! Makes a call that is answered wrongly smaller, as long as it still is.
 
-use bikuvoa::layout::token::{self, EVERYTHING};
-use bikuvoa::layout::{self, Layout, Pair, CONCEPT};
+use bikuvoa::layout::token::{self, CONSTANT, EVERYTHING};
+use bikuvoa::layout::{self, fact, Layout, Pair, Signature, CONCEPT, STATE};
 use std::ops::Range;
 use std::time::{Duration, Instant};
 use tools::call::{Call, Place};
@@ -38,7 +38,7 @@ struct Shrinker<'a> {
 impl Shrinker<'_> {
     /// Each attempt at each place once; tells whether any helped.
     fn pass(&mut self) -> bool {
-        let mut helped = false;
+        let mut helped = self.drop_constants();
         for &place in self.call.entry.places() {
             helped |= match place {
                 Place::Schema | Place::State => self.drop_entries(place),
@@ -193,6 +193,15 @@ impl Shrinker<'_> {
         })
     }
 
+    /// Drops declared constants, with all that is said of them.
+    fn drop_constants(&mut self) -> bool {
+        let signature = Signature::of(&self.call.schema).unwrap_or_default();
+        let constants = (0..signature.constants.min(u16::BITS as u16)).rev();
+        constants.fold(false, |helped, constant| {
+            self.take_call(without_constant(&self.call, constant)) | helped
+        })
+    }
+
     /// Drops single words, which only a damaged record can spare.
     fn drop_words(&mut self, place: Place) -> bool {
         let mut helped = false;
@@ -240,5 +249,56 @@ impl Shrinker<'_> {
             put(&mut call, lower);
             lower < number && self.take_call(call)
         })
+    }
+}
+
+/// The call without a constant, for which everything stands. Those after it are
+/// numbered anew.
+fn without_constant(call: &Call, dropped: u16) -> Call {
+    let mut call = call.clone();
+    if let [_, _, constants, _, loose, ..] = &mut call.schema[..] {
+        let before = (1 << dropped) - 1;
+        *constants -= 1;
+        *loose = *loose & before | *loose >> 1 & !before;
+    }
+    let views = layout::views(&call.catalogue).unwrap_or_default();
+    let mut views: Vec<Vec<u16>> = views.into_iter().map(Vec::from).collect();
+    let concepts = views.iter_mut().chain([&mut call.query, &mut call.view]);
+    for concept in concepts {
+        alter_entries(&CONCEPT, concept, |token| {
+            Some(token_without(token, dropped))
+        });
+    }
+    if !views.is_empty() {
+        call.catalogue = layout::catalogue(&views);
+    }
+    alter_entries(&STATE, &mut call.state, |fact| fact_without(fact, dropped));
+    call
+}
+
+/// Puts others for the entries, or none, if the record's length fits their count.
+fn alter_entries(layout: &Layout, words: &mut Vec<u16>, alter: impl Fn(Pair) -> Option<Pair>) {
+    if let Some(entries) = layout.entries(words) {
+        let entries: Vec<Pair> = entries.filter_map(alter).collect();
+        *words = layout.record(words, &entries);
+    }
+}
+
+fn token_without(token: Pair, dropped: u16) -> Pair {
+    match token {
+        (CONSTANT, constant) if constant == dropped => EVERYTHING,
+        (CONSTANT, constant) if constant > dropped => (CONSTANT, constant - 1),
+        token => token,
+    }
+}
+
+fn fact_without(fact: Pair, dropped: u16) -> Option<Pair> {
+    match fact::kind(fact).checked_sub(fact::CONSTANT_KINDS) {
+        Some(constant) if constant == dropped => None,
+        Some(constant) if constant > dropped => {
+            let (left, _) = fact::name(constant - 1, fact::object(fact));
+            Some((left, fact.1))
+        }
+        _ => Some(fact),
     }
 }

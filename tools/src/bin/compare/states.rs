@@ -1,5 +1,6 @@
 //! Select, legal, counterexample and the counts of links on random states.
 
+use crate::schemas::{shares, Schemas};
 use crate::verify::{verify, Difference};
 use std::fmt;
 use tools::call::{Answerer, Entry};
@@ -13,10 +14,13 @@ const UNDECLARED: usize = 10;
 
 #[derive(Default)]
 pub struct Tally {
+    pub schemas: Schemas,
     pub states: usize,
     pub legal: usize,
     selecting: usize,
     counterexamples: usize,
+    /// How many have two constants that name one object.
+    pub sharing: usize,
     objects: usize,
     facts: usize,
     /// How many counts of links were compared.
@@ -29,15 +33,17 @@ impl fmt::Display for Tally {
     fn fmt(&self, f: &mut fmt::Formatter) -> fmt::Result {
         write!(
             f,
-            "states: legal {}, with an object selected {}, counterexamples {}; up to {} objects and \
-             {} facts; link counts {}, not 0 {}",
+            "states: legal {}, with an object selected {}, counterexamples {}, with two constants of \
+             one object {}; up to {} objects and {} facts; link counts {}, not 0 {}; {}",
             self.legal,
             self.selecting,
             self.counterexamples,
+            self.sharing,
             self.objects,
             self.facts,
             self.links,
-            self.linked
+            self.linked,
+            self.schemas
         )
     }
 }
@@ -49,6 +55,7 @@ pub fn run(tested: &dyn Answerer, prng: &mut Prng, count: usize) -> Result<Tally
     let mut attributes = prng.aside();
     while tally.states < count {
         let triple = Triple::random(prng);
+        tally.schemas.count(triple.signature);
         let (schema, query) = triple.decoded();
         let state = state::state(prng, triple.signature, &schema, &query);
         judge(tested, prng, &triple, &state, &mut tally)?;
@@ -75,6 +82,7 @@ fn judge(
     tally.selecting += usize::from(selected > 0);
     tally.legal += usize::from(broken == 0);
     tally.counterexamples += usize::from(found > 0);
+    tally.sharing += usize::from(shares(&call.state));
     tally.objects = tally.objects.max(state.objects);
     tally.facts = tally.facts.max(state.facts.len());
     Ok(())

@@ -2,6 +2,7 @@
 //! small calls, on inputs that are worth comparing on.
 
 mod catalogued;
+mod loose;
 mod misread;
 mod mixes;
 mod smallest;

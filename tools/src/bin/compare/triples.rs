@@ -1,5 +1,6 @@
 //! Decide and holds on random triples.
 
+use crate::schemas::{shares, Schemas};
 use crate::verify::{verify, Difference};
 use std::fmt;
 use tools::call::{Answerer, Entry};
@@ -28,9 +29,14 @@ struct Mix {
 /// How many triples were held and how many open, by their source.
 #[derive(Default)]
 pub struct Tally {
+    /// Those of the triples but for near misses, whose schema another triple has, or
+    /// nearly.
+    pub schemas: Schemas,
     mixes: [Mix; 4],
     /// The most objects that a written state had.
     objects: u64,
+    /// How many written states have two constants that name one object.
+    pub sharing: usize,
 }
 
 impl Tally {
@@ -59,8 +65,9 @@ impl fmt::Display for Tally {
         write!(
             f,
             "triples: random ({random}), view read off a model ({followed}), \
-             near misses of held ({near_misses}), wide ({wide}); states of up to {} objects",
-            self.objects
+             near misses of held ({near_misses}), wide ({wide}); states of up to {} objects, \
+             with two constants of one object {}; {}",
+            self.objects, self.sharing, self.schemas
         )
     }
 }
@@ -70,11 +77,15 @@ pub fn run(tested: &dyn Answerer, prng: &mut Prng, count: usize) -> Result<Tally
     let mut tally = Tally::default();
     while tally.triples() < count {
         if prng.chance(2) {
-            decide(tested, &wide::triple(prng), Source::Wide, &mut tally)?;
+            let wide = wide::triple(prng);
+            tally.schemas.count(wide.signature);
+            decide(tested, &wide, Source::Wide, &mut tally)?;
         }
         let random = Triple::random(prng);
+        tally.schemas.count(random.signature);
         decide(tested, &random, Source::Random, &mut tally)?;
         let mut triple = Triple::followed(prng);
+        tally.schemas.count(triple.signature);
         let mut held = decide(tested, &triple, Source::Followed, &mut tally)?;
         // Away from a held triple in small changes, until it is open.
         for _ in 0..NEAR_MISSES {
@@ -96,11 +107,13 @@ fn decide(
 ) -> Result<bool, Box<Difference>> {
     // Both entries are held to the one verdict of the reference, so they agree.
     verify(tested, &triple.verdict_call(Entry::Holds))?;
-    let [objects, _] = verify(tested, &triple.verdict_call(Entry::Decide))?.outs;
+    let outcome = verify(tested, &triple.verdict_call(Entry::Decide))?;
+    let [objects, _] = outcome.outs;
     let held = objects == 0;
     let mix = &mut tally.mixes[source as usize];
     mix.held += usize::from(held);
     mix.open += usize::from(!held);
     tally.objects = tally.objects.max(objects);
+    tally.sharing += usize::from(!held && shares(&outcome.words));
     Ok(held)
 }

@@ -388,7 +388,7 @@ fn views_with_the_steps_of_a_query() {
 #[test]
 fn the_schema_after_the_layout() {
     let found = damage_difference(&Spoilt(|answer| {
-        let is_of_schema = answer.entry == Entry::Catalogue && (1..=2).contains(&answer.number);
+        let is_of_schema = answer.entry == Entry::Catalogue && matches!(answer.number, 1 | 2 | 14);
         if is_of_schema && layout::views(&answer.call.catalogue).is_none() {
             answer.number = 13;
         }

@@ -7,7 +7,7 @@ use bikuvoa::layout::{self, axiom, Pair, CONCEPT, SCHEMA};
 use tools::call::{Answerer, Call, Entry};
 use tools::proved::Proved;
 
-struct Misread<F: Fn(&mut Call)>(F);
+pub struct Misread<F: Fn(&mut Call)>(pub F);
 
 impl<F: Fn(&mut Call)> Answerer for Misread<F> {
     fn answer(

@@ -1,6 +1,7 @@
 //! Tests that the inputs are worth comparing on: a comparison that never meets
 //! an answer says nothing of it.
 
+use crate::schemas::Schemas;
 use crate::{catalogues, damaged, names, states, triples};
 use bikuvoa::layout::MAX_VIEWS;
 use tools::prng::Prng;
@@ -29,6 +30,32 @@ fn legal_and_illegal_states_are_both_common() {
 fn counts_of_links_are_often_0_and_often_not() {
     let tally = states::run(&Proved, &mut Prng::new(SEED), 2_000).expect("no difference");
     assert!(is_balanced(tally.linked, tally.links), "{tally}");
+}
+
+/// In each comparison at least half of the schemas have loose constants, and some
+/// have none.
+#[test]
+fn loose_constants_are_common() {
+    let prng = || Prng::new(SEED);
+    let triples = triples::run(&Proved, &mut prng(), 2_000).map(|tally| tally.schemas);
+    let states = states::run(&Proved, &mut prng(), 1_000).map(|tally| tally.schemas);
+    let damaged = damaged::run(&Proved, &mut prng(), 20_000).map(|tally| tally.schemas);
+    let names = names::run(&Proved, &mut prng(), 2_000).map(|tally| tally.schemas);
+    let catalogues = catalogues::run(&Proved, &mut prng(), 500).map(|tally| tally.schemas);
+    for schemas in [triples, states, damaged, names, catalogues] {
+        let schemas = schemas.expect("no difference");
+        let Schemas { drawn, loose } = schemas;
+        assert!(drawn * 50 <= loose * 100, "{schemas}");
+        assert!(loose * 100 <= drawn * 90, "{schemas}");
+    }
+}
+
+#[test]
+fn constants_often_share_an_object() {
+    let tally = triples::run(&Proved, &mut Prng::new(SEED), 4_000).expect("no difference");
+    assert!(tally.sharing * 20 > tally.open(), "{tally}");
+    let tally = states::run(&Proved, &mut Prng::new(SEED), 2_000).expect("no difference");
+    assert!(tally.sharing * 10 > tally.states, "{tally}");
 }
 
 #[test]
@@ -60,4 +87,6 @@ fn catalogues_have_groups_chains_and_choices() {
 fn every_refusal_comes_up() {
     let tally = damaged::run(&Proved, &mut Prng::new(SEED), 4_000).expect("no difference");
     assert!(tally.numbers.iter().all(|&calls| calls >= 10), "{tally}");
+    // Wrong marks are refused between two others, so they come up often.
+    assert!(tally.numbers[14] * 40 > tally.calls(), "{tally}");
 }

@@ -3,6 +3,7 @@
 use super::spoilt::{Answer, Spoilt};
 use super::triple_difference;
 use super::{catalogue_difference, damage_difference, name_difference, state_difference};
+use crate::schemas::shares;
 use crate::shrink::shrink;
 use crate::verify::{verify, Difference};
 use bikuvoa::layout::token::EVERYTHING;
@@ -41,6 +42,26 @@ fn of_a_wrong_verdict() {
         assert_eq!(entries(&CONCEPT, &call.query), 1);
         assert!(entries(&CONCEPT, &call.view) <= 4, "{:?}", call.view);
     }
+}
+
+/// Takes constants as different where they must be one object.
+#[test]
+fn of_a_wrong_clash() {
+    let never_shared: Spoil = |answer| {
+        if answer.is_of(Entry::Decide) && answer.outs[0] > 0 && shares(answer.lent) {
+            answer.lent.copy_from_slice(&answer.before);
+            answer.outs[0] = 0;
+        }
+    };
+    let found = triple_difference(&Spoilt(never_shared));
+    let call = smallest(never_shared, *found);
+    // No axiom, two constants, of which one is loose, and a query for little more
+    // than both at once.
+    let signature = Signature::of(&call.schema).expect("a schema");
+    assert_eq!(entries(&SCHEMA, &call.schema), 0);
+    assert_eq!((signature.constants, signature.loose), (2, 1));
+    assert!(entries(&CONCEPT, &call.query) <= 10, "{:?}", call.query);
+    assert!(entries(&CONCEPT, &call.view) <= 6, "{:?}", call.view);
 }
 
 #[test]

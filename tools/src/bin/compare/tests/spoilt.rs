@@ -462,7 +462,7 @@ fn classes_of_axioms_as_well() {
 fn the_schema_refused_after_the_concept() {
     for entry in Entry::CHECKS {
         let found = damage_difference(&Spoilt(|answer| {
-            let is_of_schema = answer.entry == entry && (1..=2).contains(&answer.number);
+            let is_of_schema = answer.entry == entry && matches!(answer.number, 1 | 2 | 14);
             if is_of_schema && CONCEPT.entries(answer.concept()).is_none() {
                 answer.number = 3;
             }
@@ -480,7 +480,7 @@ fn a_name_of_a_refused_check() {
         |answer| answer.sets[1] = 0,
     ];
     for entry in Entry::CHECKS {
-        for number in 1..=6 {
+        for number in (1..=6).chain([14]) {
             for spoil in spoils {
                 let found = damage_difference(&Spoilt(|answer| {
                     if answer.entry == entry && answer.number == number {
