@@ -59,6 +59,9 @@ pub const SCHEMA: Layout = Layout {
     counter: 3,
     max: MAX_AXIOMS,
 };
+/// The place of the loose constants among a schema's size words.
+pub const LOOSE: usize = 4;
+
 /// Size words: tokens, steps.
 pub const CONCEPT: Layout = Layout {
     sizes: 2,
@@ -123,14 +126,14 @@ pub struct Signature {
 impl Signature {
     /// What a schema record declares, if it has its size words.
     pub fn of(schema: &[u16]) -> Option<Self> {
-        let &[classes, attributes, constants, _, loose] = schema.get(..SCHEMA.sizes)? else {
+        let &[classes, attributes, constants, ..] = schema.get(..SCHEMA.sizes)? else {
             return None;
         };
         Some(Signature {
             classes,
             attributes,
             constants,
-            loose,
+            loose: schema[LOOSE],
         })
     }
 
@@ -147,7 +150,9 @@ pub fn schema(signature: Signature, axioms: &[Pair]) -> Vec<u16> {
         constants,
         loose,
     } = signature;
-    SCHEMA.record(&[classes, attributes, constants, 0, loose], axioms)
+    let mut words = SCHEMA.record(&[classes, attributes, constants], axioms);
+    words[LOOSE] = loose;
+    words
 }
 
 /// A concept record, which counts its steps.

@@ -76,6 +76,7 @@ fn the_numbers_are_the_headers() {
     same("MAX_FACTS", layout::MAX_FACTS);
     same("SCHEMA_SIZES", SCHEMA.sizes);
     same("AT_AXIOMS", SCHEMA.counter);
+    same("AT_LOOSE", layout::LOOSE);
     same("CONCEPT_SIZES", CONCEPT.sizes);
     same("AT_TOKENS", CONCEPT.counter);
     same("STATE_SIZES", STATE.sizes);

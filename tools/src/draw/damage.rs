@@ -6,7 +6,8 @@ use crate::call::{Call, Place};
 use crate::prng::Prng;
 use crate::word;
 use bikuvoa::layout::token::{self, EMPTY, EVERYTHING, REACHED};
-use bikuvoa::layout::{self, fact, Layout, Signature, CONCEPT, QUERY_STEPS, STATE, VIEW_STEPS};
+use bikuvoa::layout::{self, fact, Layout, Signature};
+use bikuvoa::layout::{CONCEPT, LOOSE, QUERY_STEPS, STATE, VIEW_STEPS};
 use bikuvoa::layout::{MAX_ATTRIBUTES, MAX_CLASSES, MAX_CONSTANTS, MAX_OBJECTS, MAX_VIEWS};
 
 /// Damages what stands at the place.
@@ -142,10 +143,10 @@ fn flip_word(prng: &mut Prng, sizes: usize, words: &mut [u16]) {
 /// Marks another constant as loose, or no longer: the lowest that is not declared,
 /// the highest that can be marked, or any.
 fn mark_another(prng: &mut Prng, words: &mut [u16]) {
-    if let [_, _, constants, _, loose, ..] = words {
+    if let Some(declared) = Signature::of(words) {
         let highest = u16::BITS as u16 - 1;
         let any = prng.word_below(highest + 1);
-        *loose ^= 1 << prng.one_of([highest.min(*constants), highest, any]);
+        words[LOOSE] ^= 1 << prng.one_of([highest.min(declared.constants), highest, any]);
     }
 }
 

@@ -1,7 +1,7 @@
 //! Makes a call that is answered wrongly smaller, as long as it still is.
 
 use bikuvoa::layout::token::{self, CONSTANT, EVERYTHING};
-use bikuvoa::layout::{self, fact, Layout, Pair, Signature, CONCEPT, STATE};
+use bikuvoa::layout::{self, fact, Layout, Pair, Signature, CONCEPT, SCHEMA, STATE};
 use std::ops::Range;
 use std::time::{Duration, Instant};
 use tools::call::{Call, Place};
@@ -198,7 +198,8 @@ impl Shrinker<'_> {
         let signature = Signature::of(&self.call.schema).unwrap_or_default();
         let constants = (0..signature.constants.min(u16::BITS as u16)).rev();
         constants.fold(false, |helped, constant| {
-            self.take_call(without_constant(&self.call, constant)) | helped
+            let call = without_constant(&self.call, constant);
+            call.is_some_and(|call| self.take_call(call)) | helped
         })
     }
 
@@ -252,15 +253,19 @@ impl Shrinker<'_> {
     }
 }
 
-/// The call without a constant, for which everything stands. Those after it are
-/// numbered anew.
-fn without_constant(call: &Call, dropped: u16) -> Call {
+/// The call without a constant, for which everything stands, if the schema's
+/// length fits its axioms. Those after it are numbered anew.
+fn without_constant(call: &Call, dropped: u16) -> Option<Call> {
+    let declared = Signature::of(&call.schema)?;
+    let axioms: Vec<Pair> = SCHEMA.entries(&call.schema)?.collect();
+    let before = (1 << dropped) - 1;
+    let signature = Signature {
+        constants: declared.constants - 1,
+        loose: declared.loose & before | declared.loose >> 1 & !before,
+        ..declared
+    };
     let mut call = call.clone();
-    if let [_, _, constants, _, loose, ..] = &mut call.schema[..] {
-        let before = (1 << dropped) - 1;
-        *constants -= 1;
-        *loose = *loose & before | *loose >> 1 & !before;
-    }
+    call.schema = layout::schema(signature, &axioms);
     let views = layout::views(&call.catalogue).unwrap_or_default();
     let mut views: Vec<Vec<u16>> = views.into_iter().map(Vec::from).collect();
     let concepts = views.iter_mut().chain([&mut call.query, &mut call.view]);
@@ -273,7 +278,7 @@ fn without_constant(call: &Call, dropped: u16) -> Call {
         call.catalogue = layout::catalogue(&views);
     }
     alter_entries(&STATE, &mut call.state, |fact| fact_without(fact, dropped));
-    call
+    Some(call)
 }
 
 /// Puts others for the entries, or none, if the record's length fits their count.
