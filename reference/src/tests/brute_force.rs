@@ -196,27 +196,26 @@ fn two_classes_two_attributes_and_a_constant() {
     assert_telling(&check(13, alphabet, 2, 40));
 }
 
-#[test]
-fn a_class_an_attribute_and_two_constants() {
+/// A class, an attribute and so many constants, which now and then must be one
+/// object.
+fn assert_merging(seed: u64, constants: usize, schemas: usize) {
     let alphabet = Alphabet {
         classes: 1,
         attributes: 1,
-        constants: 2,
+        constants,
     };
-    let tally = check(14, alphabet, 3, 30);
+    let tally = check(seed, alphabet, 3, schemas);
     assert_telling(&tally);
     assert!(tally.merging >= 10, "{} merging", tally.merging);
+}
+
+#[test]
+fn a_class_an_attribute_and_two_constants() {
+    assert_merging(14, 2, 30);
 }
 
 /// Of three, two that are not loose may each have to be the same as the third.
 #[test]
 fn a_class_an_attribute_and_three_constants() {
-    let alphabet = Alphabet {
-        classes: 1,
-        attributes: 1,
-        constants: 3,
-    };
-    let tally = check(15, alphabet, 3, 40);
-    assert_telling(&tally);
-    assert!(tally.merging >= 10, "{} merging", tally.merging);
+    assert_merging(15, 3, 40);
 }
