@@ -1,6 +1,6 @@
 -- The pairs are settled one after the other: a view is compared with each before it, and at the end the rows tell of every pair.
 use Prim.Native.Nat.{ℕ, _+_, _-_, _≤_, _<_}
-use mathlib.Core.Bool.{true, So, false≢true}
+use mathlib.Core.Bool.{So, false≢true}
 use mathlib.Core.List.{List}
 use mathlib.Core.Logic.{_⊎_, inl, inr}
 use mathlib.Core.Path.{refl}

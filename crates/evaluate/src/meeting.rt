@@ -8,7 +8,6 @@ use records::state::objects;
 ghost use Prim.Native.Nat.{_+_, _*_, _≤_, _<_, _^_};
 ghost use mathlib.Core.Path.{_≡_};
 ghost use lib.ListN.{length};
-ghost use Rattle.records.specs.Concept.{common};
 ghost use Rattle.records.specs.StateRecord.{stateOf, objects as objectsOf};
 ghost use Rattle.records.specs.Helpers.Reading.{pathAt};
 ghost use Rattle.evaluate.specs.Selection.{setWords};

@@ -1,6 +1,6 @@
 -- The facts of an accepted state that have one left word stand next to each other, since the facts ascend.
 use Prim.Native.Nat.{ℕ, zero, suc, _-_, _<_}
-use mathlib.Core.Bool.{So, false, false≢true}
+use mathlib.Core.Bool.{So, false≢true}
 use mathlib.Core.List.{List}
 use mathlib.Core.Logic.{⊎-elim}
 use mathlib.Core.Path.{_≡_}
