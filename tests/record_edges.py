@@ -8,11 +8,11 @@ give it (0: accepted), worked out by hand.
 import pathlib
 import sys
 
-from words import (BACKWARD, BOTH, CLASS, COMMON, CONSTANT, EMPTY, EVERYTHING, FORWARD, REACHED, axiom, concept, kept, member,
-                   name, pair, schema, state, words)
+from words import (BACKWARD, BOTH, CLASS, COMMON, CONSTANT, EMPTY, EVERYTHING, FORWARD, MARK, REACHED, axiom, choice, concept,
+                   kept, member, name, pair, schema, state, words)
 
 CRATE = pathlib.Path(__file__).resolve().parent.parent / "crates" / "record_edges"
-ROLES = {"schema": 1, "query": 2, "view": 3, "state": 4}
+ROLES = {"schema": 1, "query": 2, "view": 3, "concept": 4, "state": 5}
 
 
 def steps(n):
@@ -26,7 +26,7 @@ def conjunction(n):
 
 
 def full_state(extra):
-    """480 objects in 24 classes, a value of each of 8 attributes, 16 values more, 4 constants: 15,380 facts and extra."""
+    """480 objects in 24 classes, a value of each of 8 attributes, 16 values more, 4 constants: 15,380 facts, and extra pairs."""
     facts = [member(a, o) for a in range(24) for o in range(480)]
     for p in range(8):
         for o in range(480):
@@ -104,10 +104,10 @@ CASES = [
     ("query", concept(conjunction(65)), 3),
     ("view", [], 3),
     # 3 before 4.
-    ("query", concept([10] * 65), 3),
-    # 4: a sort outside 1 to 9, an undeclared argument, or one other than 0 where there is none.
+    ("query", concept([11] * 65), 3),
+    # 4: a sort outside 1 to 10, an undeclared argument, or one other than 0 where there is none.
     ("query", concept([0]), 4),
-    ("query", concept([10]), 4),
+    ("query", concept([11]), 4),
     ("query", concept([(CLASS, 1)]), 0),
     ("query", concept([(CLASS, 2)]), 4),
     ("query", concept([(CONSTANT, 0)]), 0),
@@ -119,10 +119,31 @@ CASES = [
     ("query", concept([(EMPTY, 1), REACHED]), 4),
     ("query", concept([EMPTY, (REACHED, 1)]), 4),
     ("query", concept([EMPTY, EMPTY, (COMMON, 1)]), 4),
+    # 4: a mark above 3, and a mark in a concept that is no query.
+    ("query", concept([(MARK, 0)]), 0),
+    ("query", concept([(MARK, 3)]), 0),
+    ("query", concept([(MARK, 4)]), 4),
+    ("query", concept([(MARK, 15)]), 4),
+    ("query", concept([(MARK, 65535)]), 4),
+    ("query", concept([EMPTY, (MARK, 1), FORWARD, (MARK, 2), BACKWARD, EMPTY, COMMON, (MARK, 1), BOTH]), 0),
+    ("view", concept([(MARK, 0)]), 4),
+    ("view", concept([CLASS, (MARK, 3), BOTH]), 4),
+    ("view", concept([(MARK, 4)]), 4),
+    ("concept", concept([(MARK, 0)]), 4),
+    ("concept", concept([CLASS, (MARK, 3), BOTH]), 4),
+    ("concept", concept([CLASS]), 0),
+    ("concept", concept([(CONSTANT, 0)]), 0),
+    ("concept", concept(steps(16)), 0),
+    ("concept", concept(steps(17)), 6),
     # 4 before 5: the bad token stands after the pile has failed.
-    ("query", concept([BOTH, 10]), 4),
+    ("query", concept([BOTH, 11]), 4),
+    ("query", concept([BOTH, (MARK, 4)]), 4),
+    ("view", concept([BOTH, MARK]), 4),
     # 5: what is taken is not there or not of that sort, or not exactly one concept at the end.
     ("query", concept([BOTH]), 5),
+    ("query", concept([MARK, MARK]), 5),
+    ("query", concept([MARK, REACHED]), 5),
+    ("query", concept([(MARK, 4), REACHED]), 4),
     ("query", concept([CLASS, BOTH]), 5),
     ("query", concept([EMPTY]), 5),
     ("query", concept([CLASS, CLASS]), 5),
@@ -149,11 +170,14 @@ CASES = [
     ("state", [480, 0], 0),
     ("state", [481, 0], 7),
     ("schema", LARGE, 0),
-    ("state", state(480, full_state(0)), 0),
-    ("state", state(480, full_state(1)), 7),
+    ("state", state(480, full_state(4)), 0),
+    ("state", state(480, full_state(5)), 7),
+    ("query", concept([(MARK, 0), (MARK, 1), BOTH, (MARK, 2), BOTH, (MARK, 3), BOTH]), 0),
+    ("state", state(480, full_state(0) + [choice(k, 479) for k in range(4)]), 0),
+    ("state", state(480, full_state(1) + [choice(k, 479) for k in range(4)]), 7),
     # 7 before 8.
     ("state", state(481, [(65535, 0)]), 7),
-    # 8: a kind above 35, something undeclared, an object not below N, or a right word where no pair is meant.
+    # 8: a kind above 39, something undeclared, an object not below N, or a right word where no pair is meant.
     ("schema", schema(2, 1, 0), 0),
     ("state", state(2, [member(0, 1)]), 0),
     ("state", state(2, [member(1, 0), member(2, 0)]), 8),
@@ -165,6 +189,9 @@ CASES = [
     ("state", state(2, [pair(0, 0, 2)]), 8),
     ("state", state(2, [name(0, 0)]), 8),
     ("state", state(2, [(36 * 512, 0)]), 8),
+    ("state", state(2, [(39 * 512, 0)]), 8),
+    ("state", state(2, [(40 * 512, 0)]), 8),
+    ("state", state(2, [(127 * 512, 0)]), 8),
     # 8 before 9: the bad fact stands after the order has failed.
     ("state", state(2, [member(1, 0), member(0, 0), member(2, 0)]), 8),
     # 9: the facts do not ascend strictly.
@@ -196,6 +223,33 @@ CASES = [
     ("state", state(2, [name(0, 0), name(1, 0), name(2, 0)]), 10),
     ("schema", schema(1, 0, 3, loose=6), 0),
     ("state", state(2, [name(0, 0), name(1, 0), name(2, 0)]), 0),
+    # A state for a query that uses marks 1 and 3: each has one object, and another mark none.
+    ("schema", schema(1, 1, 1), 0),
+    ("query", concept([(MARK, 1), EMPTY, (MARK, 3), FORWARD, REACHED, BOTH, (MARK, 1), BOTH]), 0),
+    ("state", state(2, [name(0, 0), choice(1, 0), choice(3, 1)]), 0),
+    ("state", state(2, [name(0, 0), choice(1, 1), choice(3, 1)]), 0),
+    ("state", state(2, [name(0, 0), choice(1, 0), choice(3, 0)]), 0),
+    # 10: a used mark without an object, or with two.
+    ("state", state(2, [name(0, 0)]), 10),
+    ("state", state(2, [name(0, 0), choice(1, 0)]), 10),
+    ("state", state(2, [name(0, 0), choice(3, 0)]), 10),
+    ("state", state(2, [name(0, 0), choice(1, 0), choice(1, 1), choice(3, 1)]), 10),
+    ("state", state(2, [name(0, 0), choice(1, 0), choice(3, 0), choice(3, 1)]), 10),
+    ("state", state(2, [choice(1, 0), choice(3, 1)]), 10),
+    # 8: a mark that is not used, an object not below N, or a right word.
+    ("state", state(2, [name(0, 0), choice(0, 0), choice(1, 0), choice(3, 1)]), 8),
+    ("state", state(2, [name(0, 0), choice(1, 0), choice(2, 0), choice(3, 1)]), 8),
+    ("state", state(2, [name(0, 0), choice(1, 2), choice(3, 1)]), 8),
+    ("state", state(2, [name(0, 0), (choice(1, 0)[0], 1), choice(3, 1)]), 8),
+    ("state", state(2, [name(0, 0), choice(1, 0), choice(3, 1), choice(4, 0)]), 8),
+    # 8 before 9, 9 before 10.
+    ("state", state(2, [name(0, 0), choice(3, 1), choice(1, 0), choice(2, 0)]), 8),
+    ("state", state(2, [name(0, 0), choice(3, 1), choice(1, 0)]), 9),
+    ("state", state(2, [choice(1, 0), choice(1, 0)]), 9),
+    # For a query without marks every mark is one that is not used.
+    ("query", concept([CLASS]), 0),
+    ("state", state(2, [name(0, 0)]), 0),
+    ("state", state(2, [name(0, 0), choice(1, 0)]), 8),
 ]
 
 

@@ -2,7 +2,7 @@
 import struct
 
 # Token sorts.
-CLASS, EVERYTHING, CONSTANT, BOTH, EMPTY, FORWARD, BACKWARD, REACHED, COMMON = range(1, 10)
+CLASS, EVERYTHING, CONSTANT, BOTH, EMPTY, FORWARD, BACKWARD, REACHED, COMMON, MARK = range(1, 11)
 
 
 def schema(classes, attributes, constants, axioms=(), loose=0):
@@ -44,6 +44,10 @@ def pair(p, x, y):
 
 def name(a, o):
     return ((32 + a) * 512 + o, 0)
+
+
+def choice(k, o):
+    return ((36 + k) * 512 + o, 0)
 
 
 def axiom(kind, subject, right):

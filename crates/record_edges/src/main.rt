@@ -1,8 +1,12 @@
 // Runs the checks over the cases of data/cases.bin and prints a line for each: its place, the record's role, and the
 // refusal's number, 0 if it is accepted. tests/record_edges.py has the cases and what document 01 says of each.
+use records::concept::ConceptAnswer;
+use records::concept::check_plain;
 use records::concept::check_query;
 use records::concept::check_view;
 use records::layout::word;
+use records::marks::allow;
+use records::marks::used;
 use records::schema::SchemaAnswer;
 use records::schema::Signature;
 use records::schema::check_schema;
@@ -22,7 +26,8 @@ fn report(role: &[u8], number: u16) {
     print(b"\n");
 }
 
-// Checks one record in its role. An accepted schema is the one under which the next records stand.
+// Checks one record in its role. An accepted schema is the one under which the next records stand, and an accepted query the one
+// whose marks the next states have.
 fn check(role: u16, s: Signature, record: &[u16]) -> Signature {
     match role {
         1 => {
@@ -35,11 +40,20 @@ fn check(role: u16, s: Signature, record: &[u16]) -> Signature {
             }
         }
         2 => {
-            report(b" query ", check_query(s, record).number());
-            s
+            let answer = check_query(s, record);
+            report(b" query ", answer.number());
+            if let ConceptAnswer::Accepted(_) = answer {
+                allow(s, used(record))
+            } else {
+                s
+            }
         }
         3 => {
             report(b" view ", check_view(s, record).number());
+            s
+        }
+        4 => {
+            report(b" concept ", check_plain(s, record).number());
             s
         }
         _ => {
@@ -56,6 +70,7 @@ fn run(words: &[u16]) {
         attributes: 0,
         constants: 0,
         loose: 0,
+        marks: 0,
     };
     let mut at = 0;
     let mut case: u64 = 0;

@@ -1,6 +1,6 @@
 -- What an accepted record gives its readers. Each law takes the answer of the check, or the one refusal that it rests on.
 use Prim.Native.Nat.{ℕ, zero, _+_, _-_, _≤_, _<_}
-use mathlib.Core.Bool.{Bool, true, false, So, cond, not, _||_}
+use mathlib.Core.Bool.{Bool, false, So, not, _&&_, _||_}
 use mathlib.Core.List.{List}
 use mathlib.Core.Path.{_≡_, refl, ap}
 use native.Mathlib.Omega.{arith}
@@ -10,25 +10,26 @@ use Rattle.records.specs.declared.schema.Signature.{Signature}
 use Rattle.records.specs.declared.schema.Axiom.{Axiom}
 use Rattle.records.specs.declared.schema.Axiom.the-variants.{Subclass, Typing, Necessary, Single, Relates}
 use Rattle.records.specs.declared.token.Token.{Token}
-use Rattle.records.specs.declared.token.Token.the-variants.{Class, Everything, Constant, Both, Empty, Forward, Backward, Reached, Common}
+use Rattle.records.specs.declared.token.Token.the-variants.{Class, Everything, Constant, Both, Empty, Forward, Backward, Reached, Common, Mark}
 use Rattle.records.specs.declared.schema.SchemaAnswer.the-variants as schema
 use Rattle.records.specs.declared.concept.ConceptAnswer.the-variants as concept
 use Rattle.records.specs.declared.state.StateAnswer.the-variants as state
-use Rattle.records.specs.Finite.{count}
-use Rattle.records.specs.Layout.{schemaLayout, conceptLayout, stateLayout, sizeAt, entries, leftAt, rightAt, maxClasses, maxAttributes, maxConstants, maxAxioms, maxTokens, maxObjects, maxFacts}
+use Rattle.records.specs.Finite.{any, count}
+use Rattle.records.specs.Layout.{schemaLayout, conceptLayout, stateLayout, sizeAt, entries, leftAt, rightAt, maxClasses, maxAttributes, maxConstants, maxAxioms, maxMarks, maxTokens, maxObjects, maxFacts}
 use Rattle.records.specs.SchemaRecord.{signatureOf, schemaOf, axiomKind}
 use Rattle.records.specs.Concept.{Direction, forward, backward}
 use Rattle.records.specs.ConceptRecord.{tokenAt, conceptOf}
 use Rattle.records.specs.StateRecord.{objects, stateOf}
+use Rattle.records.specs.Marks.{allows}
 use Rattle.records.specs.State.{repeats}
 use Rattle.records.specs.Shape.{misshapen, outside}
 use Rattle.records.specs.SchemaRefusal.{oversized, declares, faultyAxiom, refusal-1, refusal-2, refusal-14, schemaAnswer, schemaNumber, AcceptedSchema}
 use Rattle.records.specs.ConceptRefusal.{suits, faultyToken, steps, refusal-3, refusal-4, refusal-5, refusal-6, conceptAnswer, conceptNumber, AcceptedConcept}
-use Rattle.records.specs.StateRefusal.{faultyFact, ascends, descends, namesAt, misnames, refusal-7, refusal-8, refusal-9, refusal-10, stateAnswer, stateNumber, AcceptedState}
+use Rattle.records.specs.StateRefusal.{faultyFact, ascends, descends, namesAt, misnames, marksAt, mismarks, refusal-7, refusal-8, refusal-9, refusal-10, stateAnswer, stateNumber, AcceptedState}
 use Rattle.records.specs.Helpers.Steps.{conceptSteps}
 use Rattle.records.specs.Helpers.Reading.{startOf, HasConcept, stepToken, stepNumber}
 use Rattle.records.specs.Helpers.InRange.{AxiomInRange, TokenInRange}
-use Rattle.records.proofs.General.BoolLaws.{or-false, or-false-left, or-false-right, and-map, and-three-map, none-of-three, none-of-four}
+use Rattle.records.proofs.General.BoolLaws.{or-false, or-false-left, or-false-right, and-left, and-map, and-three-map, none-of-three, none-of-four}
 use Rattle.records.proofs.General.FiniteLaws.{any-none}
 use Rattle.records.proofs.ReadingLaws.{number-concept, whole-concept}
 
@@ -110,7 +111,10 @@ module _ (s : Signature) (w : List ℕ) (ok : AcceptedState s w) where
 
 -- What each test that does not apply gives.
 
-pub signature-few : (w : List ℕ) → refusal-1 w ≡ false → (signatureOf w .classes ≤ maxClasses) × (signatureOf w .attributes ≤ maxAttributes) × (signatureOf w .constants ≤ maxConstants)
+abbrev pub Few : Signature → Type 0
+Few s = (s .classes ≤ maxClasses) × (s .attributes ≤ maxAttributes) × (s .constants ≤ maxConstants)
+
+pub signature-few : (w : List ℕ) → refusal-1 w ≡ false → Few (signatureOf w)
 unfolding refusal-1
 signature-few w e =
     let s = signatureOf w in
@@ -135,7 +139,7 @@ tokens-few w e = ltb-false maxTokens (entries conceptLayout w) (or-false-right (
 
 pub token-suits : (s : Signature) (w : List ℕ) → refusal-4 s w ≡ false → (i : ℕ) → i < entries conceptLayout w → So (suits s (tokenAt w i) (rightAt conceptLayout w i))
 unfolding refusal-4 faultyToken
-token-suits s w e i l = not-false _ (or-false-right (outside 1 9 (leftAt conceptLayout w i)) _ (any-none (faultyToken s w) (entries conceptLayout w) e i l))
+token-suits s w e i l = not-false _ (or-false-right (outside 1 10 (leftAt conceptLayout w i)) _ (any-none (faultyToken s w) (entries conceptLayout w) e i l))
 
 -- a concept whose record is not refused for its pile ends at the last token, starts at the first, and has the steps counted
 module _ (w : List ℕ) (pile : refusal-5 w ≡ false) where
@@ -170,7 +174,14 @@ fact-ascends w e i l = not-false _ (any-none (descends w) (entries stateLayout w
 
 pub constant-once : (s : Signature) (w : List ℕ) → refusal-10 s w ≡ false → (a : ℕ) → a < s .constants → count (entries stateLayout w) (namesAt w a) ≡ 1
 unfolding refusal-10
-constant-once s w e a l = eqb-true (count (entries stateLayout w) (namesAt w a)) 1 (not-false _ (or-false-left _ (repeats s (stateOf w .names) a) (any-none (misnames s w) (s .constants) e a l)))
+constant-once s w e a l = eqb-true (count (entries stateLayout w) (namesAt w a)) 1 (not-false _ (or-false-left _ (repeats s (stateOf w .names) a) (any-none (misnames s w) (s .constants) (or-false-left _ (any maxMarks (mismarks s w)) e) a l)))
+
+pub mark-once : (s : Signature) (w : List ℕ) → refusal-10 s w ≡ false → (k : ℕ) → k < maxMarks → So (allows s k) → count (entries stateLayout w) (marksAt w k) ≡ 1
+unfolding refusal-10
+mark-once s w e k l h = eqb-true (count (entries stateLayout w) (marksAt w k)) 1 (and-false h (any-none (mismarks s w) maxMarks (or-false-right (any (s .constants) (misnames s w)) _ e) k l))
+  where
+    and-false : {a b : Bool} → So a → (a && not b) ≡ false → So b
+    and-false {a} {b} p q = not-false b (rw p at q)
 
 -- What an accepted record names is below the limits.
 
@@ -198,6 +209,7 @@ module _ (s : Signature) (classes : s .classes ≤ maxClasses) (attributes : s .
   suits-in-range c (Backward P) n h = attribute-below h
   suits-in-range c Reached n h = tt
   suits-in-range c Common n h = tt
+  suits-in-range c (Mark k) n h = ltb-true k maxMarks (and-left _ _ h)
 
 pub step-in-range : (r : Direction) {P : ℕ} → TokenInRange (stepToken r P) → P < maxAttributes
 step-in-range forward h = h
@@ -209,8 +221,7 @@ module _ (schema : List ℕ) (ok : AcceptedSchema schema) where
       let few = signature-few schema (passes-1 schema ok) in
       declares-in-range (signatureOf schema) (few .0) (few .1) (schemaOf schema .axiomAt i) (axiom-declared schema (passes-2 schema ok) i l)
 
-  pub token-in-range : (limit : ℕ) (w : List ℕ) → AcceptedConcept limit (signatureOf schema) w → (i : ℕ) → i < entries conceptLayout w → TokenInRange (tokenAt w i)
-  token-in-range limit w sound i l =
-      let s = signatureOf schema in
-      let few = signature-few schema (passes-1 schema ok) in
-      suits-in-range s (few .0) (few .1) (few .2) (tokenAt w i) (rightAt conceptLayout w i) (token-suits s w (passes-4 limit s w sound) i l)
+-- .. whichever marks the signature allows
+pub token-in-range : (s : Signature) → Few s → (limit : ℕ) (w : List ℕ) → AcceptedConcept limit s w → (i : ℕ) → i < entries conceptLayout w → TokenInRange (tokenAt w i)
+token-in-range s few limit w sound i l =
+    suits-in-range s (few .0) (few .1) (few .2) (tokenAt w i) (rightAt conceptLayout w i) (token-suits s w (passes-4 limit s w sound) i l)

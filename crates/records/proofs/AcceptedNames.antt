@@ -5,12 +5,12 @@ use mathlib.Core.List.{List}
 use native.Mathlib.Omega.{arith}
 use lib.Dec.{eqb}
 use Rattle.records.specs.declared.schema.Signature.{Signature}
-use Rattle.records.specs.Finite.{count}
-use Rattle.records.specs.Layout.{stateLayout, entries}
+use Rattle.records.specs.Finite.{any, count}
+use Rattle.records.specs.Layout.{stateLayout, entries, maxMarks}
 use Rattle.records.specs.State.{Names}
 use Rattle.records.specs.StateRecord.{objects, stateOf}
-use Rattle.records.specs.StateRefusal.{namesAt, misnames, refusal-10, AcceptedState}
-use Rattle.records.proofs.General.BoolLaws.{or-false-right}
+use Rattle.records.specs.StateRefusal.{namesAt, misnames, mismarks, refusal-10, AcceptedState}
+use Rattle.records.proofs.General.BoolLaws.{or-false-left, or-false-right}
 use Rattle.records.proofs.General.FiniteLaws.{any-found, any-none, count-found}
 use Rattle.records.proofs.AcceptedLaws.{passes-8, passes-10, fact-faultless, constant-once}
 use Rattle.records.proofs.StateScanLaws.{name-is, fact-object}
@@ -30,5 +30,5 @@ module _ (s : Signature) (w : List ℕ) (fine : AcceptedState s w) where
         inside = named;
         apart = λ a h.
             or-false-right (not (eqb (count (entries stateLayout w) (namesAt w a)) 1)) _
-            (any-none (misnames s w) (s .constants) (passes-10 s w fine) a h);
+            (any-none (misnames s w) (s .constants) (or-false-left _ (any maxMarks (mismarks s w)) (passes-10 s w fine)) a h);
       }

@@ -11,7 +11,8 @@ use lib.Dec.{eqb, ltb}
 use lib.ListN.{length}
 use Rattle.records.specs.declared.schema.Signature.{Signature}
 use Rattle.records.specs.Finite.{sum}
-use Rattle.records.specs.Layout.{viewSteps, maxViews}
+use Rattle.records.specs.Layout.{viewSteps, maxViews, noMarks}
+use Rattle.records.specs.Marks.{allowing}
 use Rattle.records.specs.ConceptRefusal.{conceptAnswer, conceptNumber, AcceptedConcept}
 use Rattle.records.specs.CatalogueRecord.{views, lengthAt, startAt, viewAt}
 use Rattle.records.specs.CatalogueRefusal.{refusal-13, viewNumbers, catalogueNumber, AcceptedCatalogue}
@@ -80,7 +81,7 @@ passed-at (x ∷ l) n m p = passed-at l n m (p .1)
 
 -- the number of one view
 abbrev viewNumber : Signature → List ℕ → ℕ → ℕ
-viewNumber s w i = conceptNumber (conceptAnswer viewSteps s (viewAt w i))
+viewNumber s w i = conceptNumber (conceptAnswer viewSteps (allowing noMarks s) (viewAt w i))
 
 module _ (s : Signature) (w : List ℕ) where
   pub numbers-none : Passed (viewNumbers s w 0)
@@ -124,8 +125,8 @@ module _ (s : Signature) (w : List ℕ) where
       pick true e = absurd (omega arith)
       pick false e = refl
 
-  pub accepted-view : AcceptedCatalogue s w → (i : ℕ) → i < views w → AcceptedConcept viewSteps s (viewAt w i)
+  pub accepted-view : AcceptedCatalogue s w → (i : ℕ) → i < views w → AcceptedConcept viewSteps (allowing noMarks s) (viewAt w i)
   accepted-view a i h =
       let (rest, q) = numbers-split (views w) i h in
       let p = first-passed (cond (refusal-13 w) 13 0 ∷ viewNumbers s w (views w)) a .1 in
-      passed-concept viewSteps s (viewAt w i) (passed-at (viewNumbers s w i) (viewNumber s w i) rest (rw q at p))
+      passed-concept viewSteps (allowing noMarks s) (viewAt w i) (passed-at (viewNumbers s w i) (viewNumber s w i) rest (rw q at p))

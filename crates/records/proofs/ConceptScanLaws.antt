@@ -14,10 +14,10 @@ use lib.Bits.{bitOr}
 use lib.Dec.{eqb, ltb}
 use lib.ListN.{length, getD}
 use Rattle.records.specs.declared.token.Token.{Token}
-use Rattle.records.specs.declared.token.Token.the-variants.{Class, Everything, Constant, Both, Empty, Forward, Backward, Reached, Common}
+use Rattle.records.specs.declared.token.Token.the-variants.{Class, Everything, Constant, Both, Empty, Forward, Backward, Reached, Common, Mark}
 use Rattle.records.specs.declared.sorts.Sorts.{Sorts}
 use Rattle.records.specs.declared.scan.Scan.{Scan}
-use Rattle.records.specs.Concept.{class, everything, constant, empty}
+use Rattle.records.specs.Concept.{class, everything, constant, mark, empty}
 use Rattle.records.specs.ConceptRecord.{Item, Pile, after, pileAfter, tokenOf, tokenAt}
 use Rattle.records.specs.declared.schema.Signature.{Signature}
 use Rattle.records.specs.Finite.{any, count, setOf}
@@ -113,6 +113,7 @@ after-sorts Common (some (Item.concept D ∷ Item.concept C ∷ s)) = sym (join-
 after-sorts Common (some (Item.concept D ∷ Item.path p ∷ s)) = sym (join-two (Item.concept D) (Item.path p) s 3 0)
 after-sorts Common (some (Item.path q ∷ Item.concept C ∷ s)) = sym (join-two (Item.path q) (Item.concept C) s 3 0)
 after-sorts Common (some (Item.path q ∷ Item.path p ∷ s)) = sym (join-two (Item.path q) (Item.path p) s 3 0)
+after-sorts (Mark k) (some s) = put-law s (Item.concept (mark k))
 
 concept-sorts : (p : Pile) → isConceptSort (sortsOf p) ≡ isConcept p
 concept-sorts none = refl
@@ -145,6 +146,7 @@ ok-height Reached σ =
     cond-height (ltb (σ .height) 1 || not (eqb (σ .bits % 2) 1)) (sortsOf none)
     (record { ok = true; bits = σ .bits - 1; height = σ .height }) (suc (σ .height)) (omega arith) (omega arith)
 ok-height Common σ = join-height σ 3 0
+ok-height (Mark k) σ = omega arith
 
 pile-height : (w : List ℕ) (e : ℕ) → sortsOf (pileAfter w e) .height ≤ e
 unfolding pileAfter
@@ -172,7 +174,7 @@ module _ (w : List ℕ) (i : ℕ) {sort argument : ℕ} (l : sort ≡ leftAt con
   unfolding tokenAt
   token-of = rw (l, r)
 
-  pub fault-of : (s : Signature) → (outside 1 9 sort || not (suits s (tokenOf sort argument) argument)) ≡ faultyToken s w i
+  pub fault-of : (s : Signature) → (outside 1 10 sort || not (suits s (tokenOf sort argument) argument)) ≡ faultyToken s w i
   unfolding faultyToken tokenAt
   fault-of s = rw (l, r)
 
@@ -193,7 +195,7 @@ module _ (w : List ℕ) where
   scan-steps (suc i) = count-turn (stepAt w) i (scanAfter w i .steps) (stepAt w i) (scan-steps i) refl ∙ ap (λ (n : ℕ). count n (stepAt w)) (add-one i)
 
   -- one token more, for either set
-  named-more : (names : ℕ → Token → Bool) (n i : ℕ) {c : ℕ} → c ≡ setOf n (λ x. any i λ j. names x (tokenAt w j))
+  pub named-more : (names : ℕ → Token → Bool) (n i : ℕ) {c : ℕ} → c ≡ setOf n (λ x. any i λ j. names x (tokenAt w j))
       → bitOr c (setOf n λ x. names x (tokenAt w i)) ≡ setOf n (λ x. any (suc i) λ j. names x (tokenAt w j))
   unfolding any
   named-more names n i e =

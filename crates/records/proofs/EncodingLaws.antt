@@ -13,13 +13,14 @@ use Rattle.records.specs.declared.schema.Signature.{Signature}
 use Rattle.records.specs.declared.schema.Axiom.{Axiom}
 use Rattle.records.specs.declared.schema.Axiom.the-variants.{Subclass, Typing, Necessary, Single, Relates}
 use Rattle.records.specs.Finite.{count}
-use Rattle.records.specs.Layout.{schemaLayout, conceptLayout, stateLayout, sizeAt, entries, leftAt, rightAt, lengthFor, maxFacts, maxStateWords, bytePart, objectPart, wordPart}
+use Rattle.records.specs.Layout.{schemaLayout, conceptLayout, stateLayout, sizeAt, entries, leftAt, rightAt, lengthFor, maxFacts, maxStateWords, noMarks, bytePart, objectPart, wordPart}
 use Rattle.records.specs.SchemaRecord.{signatureOf, axiomKind, axiomOf, schemaOf}
 use Rattle.records.specs.ConceptRecord.{tokenOf, tokenAt}
 use Rattle.records.specs.StateRecord.{objects, kindAt, objectAt}
 use Rattle.records.specs.Shape.{misshapen}
 use Rattle.records.specs.ConceptRefusal.{isStep, stepAt, steps}
 use Rattle.records.specs.Encoding.{recordOf, Words, leftOf, rightOf, schemaSizes, schemaRecord, axiomWords, stepsIn, conceptSizes, conceptRecord, fact, leftWord, rightWord, stateSizes, stateRecord}
+use Rattle.records.specs.Marks.{allowing}
 use Rattle.records.specs.Helpers.InRange.{AxiomInRange}
 use Rattle.records.proofs.General.FiniteLaws.{count-same}
 
@@ -87,7 +88,7 @@ module _ (s : Signature) (l : List Words) where
   unfolding schemaLayout
   schema-sizes = record { many = refl; inside = omega arith; counts = refl }
 
-  pub schema-signature : signatureOf schemaWords ≡ s
+  pub schema-signature : signatureOf schemaWords ≡ allowing noMarks s
   unfolding signatureOf sizeAt schemaRecord recordOf
   schema-signature = refl
 

@@ -15,7 +15,7 @@ use Rattle.records.specs.State.{State, repeats, Names}
 use Rattle.records.specs.Schema.{Schema, Holds, Legal}
 use Rattle.records.specs.Concept.{Concept}
 use Rattle.records.specs.Semantics.{In, Selects}
-use Rattle.records.specs.Layout.{schemaLayout, conceptLayout, stateLayout, sizeAt, entries, leftAt, rightAt, lengthFor, querySteps}
+use Rattle.records.specs.Layout.{schemaLayout, conceptLayout, stateLayout, sizeAt, entries, leftAt, rightAt, lengthFor, querySteps, noMarks}
 use Rattle.records.specs.SchemaRecord.{signatureOf, axiomKind, axiomOf, schemaOf}
 use Rattle.records.specs.ConceptRecord.{tokenOf, tokenAt, pileAfter, conceptOf}
 use Rattle.records.specs.StateRecord.{objects, kindAt, objectAt, says, saysPair, stateOf}
@@ -72,7 +72,7 @@ True (judged schema state verdict) = Accepted schema state × Deserves (schemaOf
 
 -- so many classes, attributes and constants, and which constants are loose
 abbrev pub declaring : ℕ → ℕ → ℕ → ℕ → Signature
-declaring classes attributes constants loose = record { classes = classes; attributes = attributes; constants = constants; loose = loose }
+declaring classes attributes constants loose = record { classes = classes; attributes = attributes; constants = constants; loose = loose; marks = noMarks }
 
 -- Classes 0 Strap, 1 Person; attribute 0 wears; one constant. An axiom by its left and right word.
 -- Axiom 0: Person has at most one wears. Axiom 1: wears relates Person to Strap.

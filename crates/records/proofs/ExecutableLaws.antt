@@ -11,7 +11,7 @@ use Rattle.records.specs.declared.schema.Axiom.{Axiom}
 use Rattle.records.specs.declared.schema.Axiom.the-variants.{Subclass, Typing, Necessary, Single, Relates}
 use Rattle.records.specs.State.{State}
 use Rattle.records.specs.Schema.{Schema, Holds}
-use Rattle.records.specs.Concept.{Direction, forward, backward, Concept, class, everything, constant, both, reached, common, Path, empty, step}
+use Rattle.records.specs.Concept.{Direction, forward, backward, Concept, class, everything, constant, both, reached, common, mark, Path, empty, step}
 use Rattle.records.specs.Semantics.{Steps, In, Leads}
 use Rattle.records.specs.Executable.{stepsTo, isIn, leadsTo, implies, holds, firstBroken}
 use Rattle.records.proofs.General.BoolLaws.{and-iff, and-three-iff, not-both, false-of-not}
@@ -39,6 +39,7 @@ module _ (I : State) where
     isIn-iff (both C D) d = and-iff (isIn-iff C d) (isIn-iff D d)
     isIn-iff (reached p) d = any-iff λ e. leadsTo-iff p d e
     isIn-iff (common p q) d = any-iff λ e. and-iff (leadsTo-iff p d e) (leadsTo-iff q d e)
+    isIn-iff (mark k) d = eqb-iff d (I .marks k)
 
     pub leadsTo-iff : (p : Path) (d e : ℕ) → So (leadsTo I p d e) ↔ Leads I p d e
     leadsTo-iff empty d e = eqb-iff d e

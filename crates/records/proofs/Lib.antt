@@ -9,6 +9,7 @@ pub mod LooseLaws
 pub mod RefusalLaws
 pub mod OutcomeLaws
 pub mod AcceptedLaws
+pub mod MarkLaws
 pub mod NamedLaws
 pub mod CatalogueLaws
 pub mod ConceptScanLaws

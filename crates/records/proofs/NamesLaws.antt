@@ -1,5 +1,5 @@
 -- Constants that are to differ (repeats of State.antt): what is apart by one function is apart by another that tells at least as
--- much; and of two that do not differ one is loose.
+-- much; of two that do not differ one is loose; and the allowed marks say nothing of constants.
 use Prim.Native.Nat.{ℕ, _<_}
 use mathlib.Core.Bool.{So, false, _||_, or-comm, false≢true}
 use mathlib.Core.Path.{_≡_, sym, _∙_}
@@ -7,6 +7,7 @@ use native.Mathlib.Decide.{decLt}
 use native.Mathlib.Omega.{arith}
 use borrow.Author.Tests.{eqb-true, eq-eqb, not-false}
 use Rattle.records.specs.declared.schema.Signature.{Signature}
+use Rattle.records.specs.Marks.{allowing}
 use Rattle.records.specs.State.{State, isLoose, differ, clashing, repeats, Names}
 use Rattle.records.proofs.General.BoolLaws.{false-of, and-both, and-parts}
 use Rattle.records.proofs.General.FiniteLaws.{any-none, none-any}
@@ -19,6 +20,11 @@ repeats-none s f g a told none =
     none-any (clashing s f a) a λ b l. false-of _ λ t.
     let (apart, same) = and-parts (differ s a b) _ t in
     false≢true (sym (any-none (clashing s g a) a none b l) ∙ and-both (differ s a b) _ apart (eq-eqb _ _ (told b l (eqb-true _ _ same))))
+
+-- constants are named alike whichever marks a signature allows
+pub names-allowed : (m n : ℕ) (s : Signature) (I : State) → Names (allowing m s) I → Names (allowing n s) I
+unfolding repeats
+names-allowed m n s I ok = record { inside = ok .inside; apart = ok .apart }
 
 -- of two different constants with the same object one is loose
 module _ (s : Signature) (I : State) (ok : Names s I) where

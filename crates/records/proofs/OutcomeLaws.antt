@@ -22,12 +22,13 @@ use Rattle.records.specs.declared.concept.ConceptAnswer.the-variants as 
 use Rattle.records.specs.declared.named.Named.{Named}
 use Rattle.records.specs.declared.state.StateAnswer.{StateAnswer}
 use Rattle.records.specs.declared.state.StateAnswer.the-variants as of-state
-use Rattle.records.specs.Layout.{querySteps, viewSteps}
+use Rattle.records.specs.Layout.{querySteps, viewSteps, noMarks}
 use Rattle.records.specs.SchemaRefusal.{schemaNumber, schemaAnswer, AcceptedSchema}
 use Rattle.records.specs.Named.{namedIn}
 use Rattle.records.specs.ConceptRefusal.{conceptNumber, conceptAnswer, AcceptedConcept}
 use Rattle.records.specs.StateRefusal.{stateNumber, stateAnswer, AcceptedState}
-use Rattle.records.specs.Outcome.{refusal-11, refusal-12, schemaRefusal, queryRefusal, viewRefusal, stateRefusal, lentRefusal, attributeRefusal, firstRefusal, outcome}
+use Rattle.records.specs.Marks.{allowing, usedMarks}
+use Rattle.records.specs.Outcome.{refusal-11, refusal-12, schemaRefusal, queryRefusal, viewRefusal, stateRefusal, lentRefusal, attributeRefusal, firstRefusal, outcome, plainRefusal, querySignature, choiceSignature, choiceRefusal}
 use Rattle.records.specs.SchemaRecord.{signatureOf}
 use Rattle.records.proofs.AcceptedLaws.{faultless-schema, faultless-concept, faultless-state}
 
@@ -164,13 +165,24 @@ module _ (schema : List ℕ) where
   schema-turned {a = a} e q t = (e ∙ ap schemaNumber q, rw q at (schema-not-accepted a t))
 
   module _ (w : List ℕ) {s : Signature} (z : s ≡ signatureOf schema) where
-    pub concept-turned : (limit : ℕ) {n : ℕ} {a : ConceptAnswer} → n ≡ conceptNumber a → a ≡ conceptAnswer limit s w
+    pub concept-turned : (limit marks : ℕ) {n : ℕ} {a : ConceptAnswer} → n ≡ conceptNumber a → a ≡ conceptAnswer limit (allowing marks s) w
+        → OneOf (1 ∷ 2 ∷ 3 ∷ 4 ∷ []) (tagOf Concept.the-type a)
+        → Turned n (conceptNumber (conceptAnswer limit (allowing marks (signatureOf schema)) w))
+    concept-turned limit marks e q t = rw z at (concept-refused limit (allowing marks s) w e q t)
+
+    -- .. in a role that allows no mark
+    pub plain-turned : (limit : ℕ) {n : ℕ} {a : ConceptAnswer} → n ≡ conceptNumber a → a ≡ conceptAnswer limit (allowing noMarks s) w
         → OneOf (1 ∷ 2 ∷ 3 ∷ 4 ∷ []) (tagOf Concept.the-type a) → Turned n (conceptNumber (conceptAnswer limit (signatureOf schema) w))
-    concept-turned limit e q t = rw z at (concept-refused limit s w e q t)
+    unfolding signatureOf
+    plain-turned limit e q t = concept-turned limit noMarks e q t
 
     pub state-turned : {n : ℕ} {a : StateAnswer} → n ≡ stateNumber a → a ≡ stateAnswer s w
         → OneOf (1 ∷ 2 ∷ 3 ∷ 4 ∷ []) (tagOf State.the-type a) → Turned n (stateRefusal schema w)
     state-turned {a = a} e q t = (rw (e, q, z), rw (q, z) at (state-not-accepted a t))
+
+    pub choice-turned : (query : List ℕ) {marks n : ℕ} {a : StateAnswer} → marks ≡ usedMarks query → n ≡ stateNumber a → a ≡ stateAnswer (allowing marks s) w
+        → OneOf (1 ∷ 2 ∷ 3 ∷ 4 ∷ []) (tagOf State.the-type a) → Turned n (choiceRefusal schema query w)
+    choice-turned query {a = a} u e q t = (rw (e, q, z, u), rw (q, z, u) at (state-not-accepted a t))
 
 pub lent-turned : (needed : ℕ) (lent : List ℕ) → length lent < needed → Turned 11 (lentRefusal needed lent)
 unfolding refusal-11
@@ -190,7 +202,10 @@ module _ (schema : List ℕ) where
   pub schema-signature : (s : Signature) → schemaAnswer schema ≡ of-schema.Accepted s → (s ≡ signatureOf schema) × AcceptedSchema schema
   schema-signature s e = let ok = passed-schema (ap schemaNumber e) in (cc, ok)
 
-  pub query-passed : (query : List ℕ) → AcceptedConcept querySteps (signatureOf schema) query → queryRefusal schema query ≡ 0
+  pub plain-passed : (concept : List ℕ) → AcceptedConcept querySteps (signatureOf schema) concept → plainRefusal schema concept ≡ 0
+  plain-passed concept ok = ap conceptNumber ok
+
+  pub query-passed : (query : List ℕ) → AcceptedConcept querySteps (querySignature schema) query → queryRefusal schema query ≡ 0
   query-passed query ok = ap conceptNumber ok
 
   pub view-passed : (view : List ℕ) → AcceptedConcept viewSteps (signatureOf schema) view → viewRefusal schema view ≡ 0
@@ -198,6 +213,9 @@ module _ (schema : List ℕ) where
 
   pub state-passed : (state : List ℕ) → AcceptedState (signatureOf schema) state → stateRefusal schema state ≡ 0
   state-passed state ok = ap stateNumber ok
+
+  pub choice-passed : (query state : List ℕ) → AcceptedState (choiceSignature schema query) state → choiceRefusal schema query state ≡ 0
+  choice-passed query state ok = ap stateNumber ok
 
 module _ (limit : ℕ) (s : Signature) (w : List ℕ) where
   pub passed-concept : conceptNumber (conceptAnswer limit s w) ≡ 0 → AcceptedConcept limit s w
@@ -212,16 +230,36 @@ module _ (limit : ℕ) (s : Signature) (w : List ℕ) where
   pub concept-known : {a : ConceptAnswer} {x : Named} → a ≡ conceptAnswer limit s w → a ≡ of-concept.Accepted x → AcceptedConcept limit s w
   concept-known q e = concept-named (sym q ∙ e) .1
 
+-- .. of an entry, which has the signature from the schema's check
+module _ (schema w : List ℕ) {s : Signature} (z : s ≡ signatureOf schema) (limit : ℕ) where
+  pub allowed-known : (marks : ℕ) {a : ConceptAnswer} {x : Named} → a ≡ conceptAnswer limit (allowing marks s) w → a ≡ of-concept.Accepted x
+      → AcceptedConcept limit (allowing marks (signatureOf schema)) w
+  allowed-known marks q e = rw z at (concept-known limit (allowing marks s) w q e)
+
+  pub plain-known : {a : ConceptAnswer} {x : Named} → a ≡ conceptAnswer limit (allowing noMarks s) w → a ≡ of-concept.Accepted x
+      → AcceptedConcept limit (signatureOf schema) w
+  unfolding signatureOf
+  plain-known q e = allowed-known noMarks q e
+
 module _ (schema : List ℕ) where
-  pub passed-query : (query : List ℕ) → queryRefusal schema query ≡ 0 → AcceptedConcept querySteps (signatureOf schema) query
-  passed-query query e = passed-concept querySteps (signatureOf schema) query e
+  pub passed-plain : (concept : List ℕ) → plainRefusal schema concept ≡ 0 → AcceptedConcept querySteps (signatureOf schema) concept
+  passed-plain concept e = passed-concept querySteps (signatureOf schema) concept e
+
+  pub passed-query : (query : List ℕ) → queryRefusal schema query ≡ 0 → AcceptedConcept querySteps (querySignature schema) query
+  passed-query query e = passed-concept querySteps (querySignature schema) query e
 
   pub passed-view : (view : List ℕ) → viewRefusal schema view ≡ 0 → AcceptedConcept viewSteps (signatureOf schema) view
   passed-view view e = passed-concept viewSteps (signatureOf schema) view e
 
-  pub passed-state : (state : List ℕ) → stateRefusal schema state ≡ 0 → AcceptedState (signatureOf schema) state
+  accepted-state : (s : Signature) (state : List ℕ) → stateNumber (stateAnswer s state) ≡ 0 → AcceptedState s state
   unfolding stateAnswer
-  passed-state state e = let z = faultless-state (signatureOf schema) state e in rw (z .0, z .1, z .2, z .3)
+  accepted-state s state e = let z = faultless-state s state e in rw (z .0, z .1, z .2, z .3)
+
+  pub passed-state : (state : List ℕ) → stateRefusal schema state ≡ 0 → AcceptedState (signatureOf schema) state
+  passed-state state e = accepted-state (signatureOf schema) state e
+
+  pub passed-choice : (query state : List ℕ) → choiceRefusal schema query state ≡ 0 → AcceptedState (choiceSignature schema query) state
+  passed-choice query state e = accepted-state (choiceSignature schema query) state e
 
 pub passed-attribute : (schema : List ℕ) (P : ℕ) → attributeRefusal schema P ≡ 0 → P < signatureOf schema .attributes
 unfolding refusal-12

@@ -9,8 +9,8 @@ use mathlib.Core.Path.{_≡_, refl, sym, ap, ap₂, _∙_}
 use lib.ListN.{length, drop, length-append}
 use lib.Seq.{drop-append-add}
 use Rattle.records.specs.declared.token.Token.{Token}
-use Rattle.records.specs.declared.token.Token.the-variants.{Class, Everything, Constant, Both, Empty, Forward, Backward, Reached, Common}
-use Rattle.records.specs.Concept.{Direction, forward, backward, Concept, class, everything, constant, both, reached, common, Path, empty, step}
+use Rattle.records.specs.declared.token.Token.the-variants.{Class, Everything, Constant, Both, Empty, Forward, Backward, Reached, Common, Mark}
+use Rattle.records.specs.Concept.{Direction, forward, backward, Concept, class, everything, constant, both, reached, common, mark, Path, empty, step}
 use Rattle.records.specs.ConceptRecord.{Item, concept, path, Pile, takeConcept, takePath, tokenAt, push, after, pileAfter}
 use Rattle.records.specs.Helpers.Reading.{takes, startOf, stepToken}
 
@@ -22,6 +22,7 @@ lastToken (concept (constant a)) = Constant a
 lastToken (concept (both C D)) = Both
 lastToken (concept (reached p)) = Reached
 lastToken (concept (common p q)) = Common
+lastToken (concept (mark k)) = Mark k
 lastToken (path empty) = Empty
 lastToken (path (step p r P C)) = stepToken r P
 
@@ -33,6 +34,7 @@ operands (concept (constant a)) = []
 operands (concept (both C D)) = concept D ∷ concept C ∷ []
 operands (concept (reached p)) = path p ∷ []
 operands (concept (common p q)) = path q ∷ path p ∷ []
+operands (concept (mark k)) = []
 operands (path empty) = []
 operands (path (step p r P C)) = concept C ∷ path p ∷ []
 
@@ -111,6 +113,7 @@ push-puts Common s r q =
     let b = took-path s _ r q in
     let a = took-path (b .1) _ r (b .3) in
     puts-two (concept (common (a .0) (b .0))) (path (b .0)) (path (a .0)) s (b .1) (a .1) r refl (b .2) (a .2) (a .3)
+push-puts (Mark k) s r q = puts-none (concept (mark k)) s r refl q
 
 takes-operands : (x : Item) → takes (lastToken x) ≡ length (operands x)
 unfolding takes
@@ -120,6 +123,7 @@ takes-operands (concept (constant a)) = refl
 takes-operands (concept (both C D)) = refl
 takes-operands (concept (reached p)) = refl
 takes-operands (concept (common p q)) = refl
+takes-operands (concept (mark k)) = refl
 takes-operands (path empty) = refl
 takes-operands (path (step p forward P C)) = refl
 takes-operands (path (step p backward P C)) = refl

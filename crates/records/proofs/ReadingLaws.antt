@@ -10,8 +10,8 @@ use types.Run.{OneOf, miss}
 use denote.Enum.Declared.{tagOf}
 use Rattle.records.proofs.token.Token.{the-type}
 use Rattle.records.specs.declared.token.Token.{Token}
-use Rattle.records.specs.declared.token.Token.the-variants.{Class, Everything, Constant, Both, Empty, Forward, Backward, Reached, Common}
-use Rattle.records.specs.Concept.{Direction, forward, backward, Concept, class, everything, constant, both, reached, common, Path, empty, step}
+use Rattle.records.specs.declared.token.Token.the-variants.{Class, Everything, Constant, Both, Empty, Forward, Backward, Reached, Common, Mark}
+use Rattle.records.specs.Concept.{Direction, forward, backward, Concept, class, everything, constant, both, reached, common, mark, Path, empty, step}
 use Rattle.records.specs.ConceptRecord.{concept, path, Pile, tokenAt, pileAfter, topConcept}
 use Rattle.records.specs.ConceptRefusal.{isConcept}
 use Rattle.records.specs.Helpers.Steps.{conceptSteps, pathSteps}
@@ -21,7 +21,7 @@ use Rattle.records.proofs.SpellingLaws.{Spells, ends-spells, path-spell
 
 -- the tokens that end a concept, and those that end a path, by their places in the enum
 abbrev pub concept-tags : List ℕ
-concept-tags = 0 ∷ 1 ∷ 2 ∷ 3 ∷ 7 ∷ 8 ∷ []
+concept-tags = 0 ∷ 1 ∷ 2 ∷ 3 ∷ 7 ∷ 8 ∷ 9 ∷ []
 
 abbrev pub path-tags : List ℕ
 path-tags = 4 ∷ 5 ∷ 6 ∷ []
@@ -70,6 +70,7 @@ module _ (w : List ℕ) where
   Reads e Empty = ⊥
   Reads e (Forward P) = ⊥
   Reads e (Backward P) = ⊥
+  Reads e (Mark k) = (conceptAt w (suc e) ≡ mark k) × (startOf w (suc e) 1 ≡ e)
 
   -- .. and of a path
   abbrev pub ReadsStep : ℕ → Direction → ℕ → Type 0
@@ -87,6 +88,7 @@ module _ (w : List ℕ) where
   ReadsPath e Both = ⊥
   ReadsPath e Reached = ⊥
   ReadsPath e Common = ⊥
+  ReadsPath e (Mark k) = ⊥
 
   pub concept-reads : (e : ℕ) (t : Token) → HasConcept w (suc e) → tokenAt w e ≡ t → Reads e t
   unfolding HasConcept Ends
@@ -111,6 +113,7 @@ module _ (w : List ℕ) where
           let d = ends-path r e (t .0) in
           let c = ends-path p (startOf w e 1) (t .1) in
           (q ∙ ap₂ common (sym (c .1)) (sym (d .1)), t .2, d .0, c .0)
+      go (mark k) q h = (q, ends-none w (concept (mark k)) e refl h)
 
   pub path-reads : (e : ℕ) (t : Token) → HasPath w (suc e) → tokenAt w e ≡ t → ReadsPath e t
   unfolding HasPath Ends
@@ -160,6 +163,7 @@ module _ (w : List ℕ) where
       go (Backward P) k r = r
       go Reached k r = miss path-tags 7 tt k
       go Common k r = miss path-tags 8 tt k
+      go (Mark m) k r = miss path-tags 9 tt k
 
   pub path-not-concept : (e : ℕ) → HasPath w e → OneOf concept-tags (tagOf the-type (tokenAt w (e - 1))) → ⊥
   path-not-concept e h k = go (tokenAt w (e - 1)) k (path-token e h refl)
@@ -174,6 +178,7 @@ module _ (w : List ℕ) where
       go (Backward P) k r = miss concept-tags 6 tt k
       go Reached k r = r
       go Common k r = r
+      go (Mark m) k r = r
 
   -- the tokens from its start spell it
   pub concept-spells : (e : ℕ) → HasConcept w e → Spells w (conceptAt w e) (startOf w e 1) e

@@ -8,7 +8,7 @@ use lib.Dec.{ltb}
 use mir.Val.{boolByte}
 use borrow.Author.Tests.{ltb-true, lt-ltb}
 use Rattle.records.specs.declared.token.Token.{Token}
-use Rattle.records.specs.declared.token.Token.the-variants.{Class, Everything, Constant, Both, Empty, Forward, Backward, Reached, Common}
+use Rattle.records.specs.declared.token.Token.the-variants.{Class, Everything, Constant, Both, Empty, Forward, Backward, Reached, Common, Mark}
 use Rattle.records.specs.ConceptRecord.{tokenAt}
 use Rattle.records.specs.Finite.{count}
 use Rattle.records.specs.ConceptRefusal.{stepAt}
@@ -27,6 +27,7 @@ takes-few (Forward P) = omega arith
 takes-few (Backward P) = omega arith
 takes-few Reached = omega arith
 takes-few Common = omega arith
+takes-few (Mark k) = omega arith
 
 -- the loop's test: tokens are left, and items are wanted
 pub goes-on : (at wanted : ℕ) → So (ltb 0 at && ltb 0 wanted) → (0 < at) × (0 < wanted)

@@ -6,8 +6,8 @@ use mathlib.Core.Bool.{true, false}
 use mathlib.Core.List.{List, [], _∷_}
 use mathlib.Core.Path.{_≡_, refl, sym, ap, subst, _∙_}
 use Rattle.records.specs.declared.token.Token.{Token}
-use Rattle.records.specs.declared.token.Token.the-variants.{Class, Everything, Constant, Both, Empty, Reached, Common}
-use Rattle.records.specs.Concept.{Direction, forward, backward, Concept, class, everything, constant, both, reached, common, Path, empty, step}
+use Rattle.records.specs.declared.token.Token.the-variants.{Class, Everything, Constant, Both, Empty, Reached, Common, Mark}
+use Rattle.records.specs.Concept.{Direction, forward, backward, Concept, class, everything, constant, both, reached, common, mark, Path, empty, step}
 use Rattle.records.specs.ConceptRecord.{Item, concept, path, tokenAt}
 use Rattle.records.specs.ConceptRefusal.{isStep, stepAt}
 use Rattle.records.specs.Helpers.Steps.{conceptSteps, pathSteps}
@@ -25,6 +25,7 @@ module _ (w : List ℕ) where
     Spells (both C D) b e = (m d : ℕ) × Spells C b m × Spells D m d × (e ≡ suc d) × (tokenAt w d ≡ Both)
     Spells (reached p) b e = (d : ℕ) × SpellsPath p b d × (e ≡ suc d) × (tokenAt w d ≡ Reached)
     Spells (common p q) b e = (m d : ℕ) × SpellsPath p b m × SpellsPath q m d × (e ≡ suc d) × (tokenAt w d ≡ Common)
+    Spells (mark k) b e = (e ≡ suc b) × (tokenAt w b ≡ Mark k)
 
     pub SpellsPath : Path → ℕ → ℕ → Type 0
     SpellsPath empty b e = (e ≡ suc b) × (tokenAt w b ≡ Empty)
@@ -39,6 +40,7 @@ module _ (w : List ℕ) where
     spells-order (both C D) b e s = omega (arith, s .4, spells-order C b (s .0) (s .2), spells-order D (s .0) (s .1) (s .3))
     spells-order (reached p) b e s = omega (arith, s .2, path-order p b (s .0) (s .1))
     spells-order (common p q) b e s = omega (arith, s .4, path-order p b (s .0) (s .2), path-order q (s .0) (s .1) (s .3))
+    spells-order (mark k) b e s = omega (arith, s .0)
 
     pub path-order : (p : Path) (b e : ℕ) → SpellsPath p b e → b < e
     path-order empty b e s = omega (arith, s .0)
@@ -82,6 +84,7 @@ module _ (w : List ℕ) where
     ends-spells (common p q) e h =
         spells-two (SpellsPath p) (SpellsPath q) (concept (common p q)) (path q) (path p) e refl h (λ d k. path-spells q d k)
         (λ d k. path-spells p d k)
+    ends-spells (mark k) e h = spells-none (concept (mark k)) e refl h
 
     pub path-spells : (p : Path) (e : ℕ) → Ends w (path p) e → SpellsPath p (startOf w e 1) e
     path-spells empty e h = spells-none (path empty) e refl h
@@ -126,6 +129,7 @@ module _ (w : List ℕ) where
           path-number q (s .0)
               (s .1) (s .3),
         )
+    concept-number (mark k) b e s = omega (arith, ap (stepNumber w) (s .0), step-same b (Mark k) (s .1) refl)
 
     pub path-number : (p : Path) (b e : ℕ) → SpellsPath p b e → stepNumber w e ≡ stepNumber w b + pathSteps p
     path-number empty b e s = omega (arith, ap (stepNumber w) (s .0), step-same b Empty (s .1) refl)

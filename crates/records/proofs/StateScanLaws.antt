@@ -14,14 +14,15 @@ use lib.Dec.{eqb, ltb, leb}
 use lib.ListN.{length, getD, set, length-set, replicate, getD-replicate, List·getD-eq-default}
 use lib.Seq.{getD-set-same, getD-set-other}
 use Rattle.records.specs.declared.schema.Signature.{Signature}
-use Rattle.records.specs.Finite.{any, all, count}
-use Rattle.records.specs.Layout.{stateLayout, entries, constantKinds, factKinds, attributeKinds, rightAt}
+use Rattle.records.specs.Finite.{any, all, count, least}
+use Rattle.records.specs.Layout.{stateLayout, entries, constantKinds, markKinds, factKinds, attributeKinds, rightAt, maxConstants, maxMarks}
 use Rattle.records.specs.StateRecord.{kindAt, objectAt, objects, says, stateOf}
-use Rattle.records.specs.StateRefusal.{ascends, descends, faultyFact, declaresKind, namesAt, misnames, refusal-8, refusal-9, refusal-10}
-use Rattle.records.specs.Helpers.Scan.{followsAt, slotOf, namedIn, misnamedAt, misnamed}
+use Rattle.records.specs.StateRefusal.{ascends, descends, faultyFact, declaresKind, namesAt, misnames, marksAt, mismarks, refusal-8, refusal-9, refusal-10}
+use Rattle.records.specs.Helpers.Scan.{followsAt, slots, slotOf, namedIn, misnamedAt, misnamed, mismarkedAt, mismarked}
+use Rattle.records.specs.Marks.{allows}
 use Rattle.records.specs.State.{clashing, repeats}
 use Rattle.records.proofs.General.BoolLaws.{or-false-left, or-false-right, or-left, or-true-cases, and-left, and-right, and-both, not-both, false-of}
-use Rattle.records.proofs.General.FiniteLaws.{any-zero, any-still, any-of, any-none, none-any, any-same, all-more, count-more, count-one, count-found, none-count, least-is}
+use Rattle.records.proofs.General.FiniteLaws.{any-zero, any-still, any-of, any-none, none-any, any-same, all-more, count-more, count-one, count-same, count-found, none-count, least-is}
 
 -- Order.
 
@@ -79,17 +80,26 @@ module _ (w : List ℕ) (a : ℕ) (one : count (entries stateLayout w) (namesAt 
           let hit : objectAt w i ≡ d = eqb-true (objectAt w i) d (and-right (namesAt w a i) _ t) in
           omega arith
 
+-- Marks stand after the constants: mark k is read as constant 4 + k would be.
+pub mark-names : (w : List ℕ) (k i : ℕ) → namesAt w (maxConstants + k) i ≡ marksAt w k i
+mark-names w k i = ap (eqb (kindAt w i)) (omega arith)
+
+pub marks-names : (w : List ℕ) (k : ℕ) → stateOf w .marks k ≡ stateOf w .names (maxConstants + k)
+unfolding stateOf
+marks-names w k = ap (λ (m : ℕ). least (objects w) λ d. says w m d) (omega arith)
+
 -- a fact without a fault: its kind is one of the record's, and its object is inside
 fact-kind : (s : Signature) (w : List ℕ) (i : ℕ) → faultyFact s w i ≡ false → kindAt w i < factKinds
 unfolding faultyFact
-fact-kind s w i e = pick (ltb (kindAt w i) attributeKinds) refl (ltb (kindAt w i) constantKinds) refl (not-false _ (or-false-left _ _ (or-false-left _ _ e)))
+fact-kind s w i e = pick (ltb (kindAt w i) attributeKinds) refl (ltb (kindAt w i) constantKinds) refl (ltb (kindAt w i) markKinds) refl (not-false _ (or-false-left _ _ (or-false-left _ _ e)))
   where
-    pick : (t : Bool) → ltb (kindAt w i) attributeKinds ≡ t → (u : Bool) → ltb (kindAt w i) constantKinds ≡ u
-        → So (cond t (ltb (kindAt w i) (s .classes)) (cond u (ltb (kindAt w i - attributeKinds) (s .attributes)) (ltb (kindAt w i) factKinds && ltb (kindAt w i - constantKinds) (s .constants))))
+    pick : (t : Bool) → ltb (kindAt w i) attributeKinds ≡ t → (u : Bool) → ltb (kindAt w i) constantKinds ≡ u → (v : Bool) → ltb (kindAt w i) markKinds ≡ v
+        → So (cond t (ltb (kindAt w i) (s .classes)) (cond u (ltb (kindAt w i - attributeKinds) (s .attributes)) (cond v (ltb (kindAt w i - constantKinds) (s .constants)) (allows s (kindAt w i - markKinds)))))
         → kindAt w i < factKinds
-    pick true p u q h = omega (arith, ltb-true (kindAt w i) attributeKinds p)
-    pick false p true q h = omega (arith, ltb-true (kindAt w i) constantKinds q)
-    pick false p false q h = ltb-true (kindAt w i) factKinds (and-left _ _ h)
+    pick true p u q v r h = omega (arith, ltb-true (kindAt w i) attributeKinds p)
+    pick false p true q v r h = omega (arith, ltb-true (kindAt w i) constantKinds q)
+    pick false p false q true r h = omega (arith, ltb-true (kindAt w i) markKinds r)
+    pick false p false q false r h = omega (arith, ltb-true (kindAt w i - markKinds) maxMarks (and-left _ _ h))
 
 pub fact-object : (s : Signature) (w : List ℕ) (i : ℕ) → faultyFact s w i ≡ false → objectAt w i < objects w
 unfolding faultyFact
@@ -104,10 +114,10 @@ fact-second s w i e = pick (leb attributeKinds (kindAt w i) && ltb (kindAt w i) 
     pick true h = ltb-true (rightAt stateLayout w i) (objects w) h
     pick false h = omega (arith, eqb-true (rightAt stateLayout w i) 0 h, fact-object s w i e)
 
-slot-is : (k a : ℕ) → a < 4 → eqb (slotOf k) a ≡ eqb k (constantKinds + a)
+slot-is : (k a : ℕ) → a < slots → eqb (slotOf k) a ≡ eqb k (constantKinds + a)
 slot-is k a l = pick (leb constantKinds k && ltb k factKinds) refl
   where
-    pick : (t : Bool) → (leb constantKinds k && ltb k factKinds) ≡ t → eqb (cond t (k - constantKinds) 4) a ≡ eqb k (constantKinds + a)
+    pick : (t : Bool) → (leb constantKinds k && ltb k factKinds) ≡ t → eqb (cond t (k - constantKinds) slots) a ≡ eqb k (constantKinds + a)
     pick true p =
         let low : constantKinds ≤ k = leb-true constantKinds k (and-left _ _ p) in
         same (ℕ-discrete (k - constantKinds) a)
@@ -117,7 +127,7 @@ slot-is k a l = pick (leb constantKinds k && ltb k factKinds) refl
         same (no n) = rw (ne-eqb (k - constantKinds) a n, ne-eqb k (constantKinds + a) (λ e. n (omega arith)))
     pick false p =
         rw (
-          ne-eqb 4 a (λ e. omega arith),
+          ne-eqb slots a (λ e. omega arith),
           ne-eqb k (constantKinds + a) (λ e. not-both (leb constantKinds k && ltb k factKinds)
               (and-both _ _ (le-leb constantKinds k (omega arith)) (lt-ltb k factKinds (omega arith))) p),
         )
@@ -133,14 +143,14 @@ set-slot l at a v h = pick (ℕ-discrete at a)
 pub record Kept (s : Signature) (w : List ℕ) (i : ℕ) (asc : Bool) (counts named : List ℕ) : Type 0 where
   pub faultless : any i (faultyFact s w) ≡ false
   pub order : asc ≡ all i (followsAt w)
-  pub counters : length counts ≡ 5
-  pub places : length named ≡ 5
+  pub counters : length counts ≡ suc slots
+  pub places : length named ≡ suc slots
   pub small : (k : ℕ) → getD counts k 0 ≤ i
-  pub counted : (a : ℕ) → a < 4 → getD counts a 0 ≡ count i (namesAt w a)
-  pub last : (a : ℕ) → a < 4 → getD named a 0 ≡ lastObject w a i
+  pub counted : (a : ℕ) → a < slots → getD counts a 0 ≡ count i (namesAt w a)
+  pub last : (a : ℕ) → a < slots → getD named a 0 ≡ lastObject w a i
 
 module _ (s : Signature) (w : List ℕ) where
-  pub kept-more : {i : ℕ} {asc : Bool} {counts named : List ℕ} → Kept s w i asc counts named → faultyFact s w i ≡ false → (at : ℕ) → at ≡ slotOf (kindAt w i) → at < 5 → Kept s w (i + 1) (asc && followsAt w i) (set counts at (getD counts at 0 + 1)) (set named at (objectAt w i))
+  pub kept-more : {i : ℕ} {asc : Bool} {counts named : List ℕ} → Kept s w i asc counts named → faultyFact s w i ≡ false → (at : ℕ) → at ≡ slotOf (kindAt w i) → at < suc slots → Kept s w (i + 1) (asc && followsAt w i) (set counts at (getD counts at 0 + 1)) (set named at (objectAt w i))
   unfolding lastObject
   kept-more {i} {asc} {counts} {named} z ok at e l =
       record {
@@ -153,18 +163,18 @@ module _ (s : Signature) (w : List ℕ) where
         last = λ a m. rw (set-slot named at a (objectAt w i) (rw (z .places) l), add-one, ← (is a m), z .last a m);
       }
     where
-      is : (a : ℕ) → a < 4 → eqb at a ≡ namesAt w a i
+      is : (a : ℕ) → a < slots → eqb at a ≡ namesAt w a i
       is a m = rw e (slot-is (kindAt w i) a m)
 
       grown : (t : Bool) {k : ℕ} → k ≤ i → getD counts at 0 ≤ i → cond t (getD counts at 0 + 1) k ≤ i + 1
       grown true p q = omega arith
       grown false p q = omega arith
 
-      more : (a : ℕ) → a < 4 → Dec (at ≡ a) → cond (eqb at a) (getD counts at 0 + 1) (getD counts a 0) ≡ cond (eqb at a) (suc (count i (namesAt w a))) (count i (namesAt w a))
+      more : (a : ℕ) → a < slots → Dec (at ≡ a) → cond (eqb at a) (getD counts at 0 + 1) (getD counts a 0) ≡ cond (eqb at a) (suc (count i (namesAt w a))) (count i (namesAt w a))
       more a m (yes q) = rw (eq-eqb at a q, q, z .counted a m) (omega arith)
       more a m (no n) = rw (ne-eqb at a n) (z .counted a m)
 
-  pub kept-none : Kept s w 0 true (replicate 5 0) (replicate 5 0)
+  pub kept-none : Kept s w 0 true (replicate (suc slots) 0) (replicate (suc slots) 0)
   unfolding all count lastObject
   kept-none =
       record {
@@ -177,15 +187,15 @@ module _ (s : Signature) (w : List ℕ) where
         last = λ a m. zero-at a m;
       }
     where
-      zero-at : (k : ℕ) → k < 4 → _≡_ {A = ℕ} (getD (replicate 5 0) k 0) 0
-      zero-at k m = getD-replicate 5 k 0 0 (omega arith)
+      zero-at : (k : ℕ) → k < slots → _≡_ {A = ℕ} (getD (replicate (suc slots) 0) k 0) 0
+      zero-at k m = getD-replicate (suc slots) k 0 0 (omega arith)
 
-      zeros : (k : ℕ) → getD (replicate 5 0) k 0 ≤ 0
-      zeros k = le-of-eq (pick (decLt k 5))
+      zeros : (k : ℕ) → getD (replicate (suc slots) 0) k 0 ≤ 0
+      zeros k = le-of-eq (pick (decLt k (suc slots)))
         where
-          pick : Dec (k < 5) → _≡_ {A = ℕ} (getD (replicate 5 0) k 0) 0
-          pick (yes l) = getD-replicate 5 k 0 0 l
-          pick (no n) = List·getD-eq-default (replicate 5 0) 0 {n = k} (omega arith)
+          pick : Dec (k < suc slots) → _≡_ {A = ℕ} (getD (replicate (suc slots) 0) k 0) 0
+          pick (yes l) = getD-replicate (suc slots) k 0 0 l
+          pick (no n) = List·getD-eq-default (replicate (suc slots) 0) 0 {n = k} (omega arith)
 
   module _ {asc : Bool} {counts named : List ℕ} (z : Kept s w (entries stateLayout w) asc counts named) where
     pub kept-8 : refusal-8 s w ≡ false
@@ -197,12 +207,12 @@ module _ (s : Signature) (w : List ℕ) where
     kept-9 = rw (z .order, order-is w (entries stateLayout w)) (sym (Bool·not-not _))
 
     -- of constants with one fact each, the last object is the object
-    named-is : (a : ℕ) → a < 4 → count (entries stateLayout w) (namesAt w a) ≡ 1 → getD named a 0 ≡ stateOf w .names a
+    named-is : (a : ℕ) → a < slots → count (entries stateLayout w) (namesAt w a) ≡ 1 → getD named a 0 ≡ stateOf w .names a
     named-is a m one =
         let (j, l, p, q) = last-found w a (entries stateLayout w) (count-found (namesAt w a) (entries stateLayout w) (rw one (omega arith))) in
         z .last a m ∙ q ∙ sym (name-is w a one j l p (fact-object s w j (any-none (faultyFact s w) (entries stateLayout w) (z .faultless) j l)))
 
-    misnames-is : (a : ℕ) → a < 4 → ((b : ℕ) → b < a → misnamedAt s counts named b ≡ false) → misnamedAt s counts named a ≡ misnames s w a
+    misnames-is : (a : ℕ) → a < slots → ((b : ℕ) → b < a → misnamedAt s counts named b ≡ false) → misnamedAt s counts named a ≡ misnames s w a
     unfolding repeats
     misnames-is a m earlier = rw (z .counted a m) (pick (ℕ-discrete (count (entries stateLayout w) (namesAt w a)) 1))
       where
@@ -217,19 +227,30 @@ module _ (s : Signature) (w : List ℕ) where
             rw (eq-eqb (count (entries stateLayout w) (namesAt w a)) 1 one)
             (any-same (clashing s (namedIn named) a) (clashing s (stateOf w .names) a) a (λ b l h. rw (named-is b (omega arith) (once b l), named-is a m one)))
 
-    pub kept-10 : misnamed s counts named ≡ refusal-10 s w
-    unfolding misnamed refusal-10
-    kept-10 = pick (decLt 4 (s .constants))
+    misnamed-is : misnamed s counts named ≡ any (s .constants) (misnames s w)
+    unfolding misnamed
+    misnamed-is = pick (decLt slots (s .constants))
       where
-        pick : Dec (4 < s .constants) → (ltb 4 (s .constants) || any (s .constants) (misnamedAt s counts named)) ≡ any (s .constants) (misnames s w)
+        pick : Dec (slots < s .constants) → (ltb slots (s .constants) || any (s .constants) (misnamedAt s counts named)) ≡ any (s .constants) (misnames s w)
         pick (yes l) =
-            rw (lt-ltb 4 (s .constants) l)
-            (sym (any-of (misnames s w) (s .constants) 4 l
-            (or-left (not (eqb (count (entries stateLayout w) (namesAt w 4)) 1)) (repeats s (stateOf w .names) 4)
-            (rw (none-count (namesAt w 4) (entries stateLayout w) unnamed)))))
+            rw (lt-ltb slots (s .constants) l)
+            (sym (any-of (misnames s w) (s .constants) slots l
+            (or-left (not (eqb (count (entries stateLayout w) (namesAt w slots)) 1)) (repeats s (stateOf w .names) slots)
+            (rw (none-count (namesAt w slots) (entries stateLayout w) unnamed)))))
           where
-            unnamed : (i : ℕ) → i < entries stateLayout w → namesAt w 4 i ≡ false
-            unnamed i h = ne-eqb (kindAt w i) 36 (λ e. omega (arith, fact-kind s w i (any-none (faultyFact s w) (entries stateLayout w) (z .faultless) i h)))
+            unnamed : (i : ℕ) → i < entries stateLayout w → namesAt w slots i ≡ false
+            unnamed i h = ne-eqb (kindAt w i) factKinds (λ e. omega (arith, fact-kind s w i (any-none (faultyFact s w) (entries stateLayout w) (z .faultless) i h)))
         pick (no n) =
-            rw (le-ltb 4 (s .constants) (omega arith))
+            rw (le-ltb slots (s .constants) (omega arith))
             (any-same (misnamedAt s counts named) (misnames s w) (s .constants) (λ a l h. misnames-is a (omega arith) h))
+
+    mismarks-is : (k : ℕ) → k < maxMarks → mismarkedAt s counts k ≡ mismarks s w k
+    mismarks-is k l =
+        ap (λ (n : ℕ). allows s k && not (eqb n 1))
+        (z .counted (maxConstants + k) (omega arith)
+        ∙ count-same (namesAt w (maxConstants + k)) (marksAt w k) (entries stateLayout w) (λ i h. mark-names w k i))
+
+    pub kept-10 : (misnamed s counts named || mismarked s counts) ≡ refusal-10 s w
+    unfolding mismarked refusal-10
+    kept-10 =
+        rw (misnamed-is, any-same (mismarkedAt s counts) (mismarks s w) maxMarks (λ k l h. mismarks-is k l))

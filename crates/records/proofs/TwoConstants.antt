@@ -25,7 +25,7 @@ abbrev sharing : ℕ → ℕ → ℕ → ℕ
 sharing a b k = cond (eqb k a) b k
 
 abbrev shared : Signature → ℕ → ℕ → State
-shared s a b = record { size = s .constants; members = λ A d. false; pairs = λ P d e. false; names = sharing a b }
+shared s a b = record { size = s .constants; members = λ A d. false; pairs = λ P d e. false; names = sharing a b; marks = λ k. 0 }
 
 -- without facts every axiom holds
 factless : (s : Signature) (a b : ℕ) (x : Axiom) → Holds (shared s a b) x

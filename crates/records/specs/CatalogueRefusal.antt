@@ -6,9 +6,10 @@ use mathlib.Core.Path.{_≡_}
 use lib.Dec.{eqb}
 use lib.ListN.{length}
 use Rattle.records.specs.declared.schema.Signature.{Signature}
-use Rattle.records.specs.Layout.{viewSteps, maxViews}
+use Rattle.records.specs.Layout.{viewSteps, noMarks, maxViews}
 use Rattle.records.specs.SchemaRecord.{signatureOf}
 use Rattle.records.specs.ConceptRefusal.{conceptAnswer, conceptNumber}
+use Rattle.records.specs.Marks.{allowing}
 use Rattle.records.specs.CatalogueRecord.{views, startAt, viewAt}
 use Rattle.records.specs.Shape.{outside}
 use Rattle.records.specs.Outcome.{schemaRefusal, firstRefusal}
@@ -21,7 +22,7 @@ refusal-13 w = outside 1 maxViews (views w) || not (eqb (length w) (startAt w (v
 -- the numbers of the first n views, each checked as a view: all refusals of view 0 come before those of view 1
 unfoldable pub viewNumbers : Signature → List ℕ → ℕ → List ℕ
 viewNumbers s w zero = []
-viewNumbers s w (suc n) = viewNumbers s w n ++ (conceptNumber (conceptAnswer viewSteps s (viewAt w n)) ∷ [])
+viewNumbers s w (suc n) = viewNumbers s w n ++ (conceptNumber (conceptAnswer viewSteps (allowing noMarks s) (viewAt w n)) ∷ [])
 
 -- the first refusal of a catalogue, 0 for an accepted one
 abbrev pub catalogueNumber : Signature → List ℕ → ℕ

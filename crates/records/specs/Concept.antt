@@ -21,6 +21,8 @@ mutual
     reached : Path → Concept
     -- the two paths from the object reach a common object
     common : Path → Path → Concept
+    -- the object of the mark, the same wherever the mark stands (document 02, note 6)
+    mark : ℕ → Concept
 
   pub data Path : Type 0 where
     empty : Path

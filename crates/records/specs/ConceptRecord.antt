@@ -5,8 +5,8 @@ use mathlib.Core.Option.{Option, none, some}
 use mathlib.Core.Bool.{cond}
 use lib.Dec.{eqb}
 use Rattle.records.specs.declared.token.Token.{Token}
-use Rattle.records.specs.declared.token.Token.the-variants.{Class, Everything, Constant, Both, Empty, Forward, Backward, Reached, Common}
-use Rattle.records.specs.Concept.{forward, backward, Concept, class, everything, constant, both, reached, common, Path, empty, step}
+use Rattle.records.specs.declared.token.Token.the-variants.{Class, Everything, Constant, Both, Empty, Forward, Backward, Reached, Common, Mark}
+use Rattle.records.specs.Concept.{forward, backward, Concept, class, everything, constant, both, reached, common, mark, Path, empty, step}
 use Rattle.records.specs.Layout.{conceptLayout, entries, leftAt, rightAt}
 
 -- A token's sort is its left word, its argument the right word. (Another sort is refused.)
@@ -20,7 +20,8 @@ tokenOf sort argument =
     (cond (eqb sort 6) (Forward argument)
     (cond (eqb sort 7) (Backward argument)
     (cond (eqb sort 8) Reached
-    Common)))))))
+    (cond (eqb sort 9) Common
+    (Mark argument)))))))))
 
 unfoldable pub tokenAt : List ℕ → ℕ → Token
 tokenAt w i = tokenOf (leftAt conceptLayout w i) (rightAt conceptLayout w i)
@@ -56,6 +57,7 @@ push (Forward P) s = takeConcept s λ C s. takePath s λ p s. some (path (step p
 push (Backward P) s = takeConcept s λ C s. takePath s λ p s. some (path (step p backward P C) ∷ s)
 push Reached s = takePath s λ p s. some (concept (reached p) ∷ s)
 push Common s = takePath s λ q s. takePath s λ p s. some (concept (common p q) ∷ s)
+push (Mark k) s = some (concept (mark k) ∷ s)
 
 abbrev pub after : Token → Pile → Pile
 after t none = none

@@ -6,16 +6,16 @@ use mathlib.Core.Option.{none, some}
 use mathlib.Core.Bool.{Bool, true, false, cond, not, _||_}
 use mathlib.Core.Path.{_≡_}
 use lib.Dec.{eqb, ltb}
-use lib.ListN.{length}
 use Rattle.records.specs.declared.schema.Signature.{Signature}
 use Rattle.records.specs.declared.token.Token.{Token}
-use Rattle.records.specs.declared.token.Token.the-variants.{Class, Everything, Constant, Both, Empty, Forward, Backward, Reached, Common}
+use Rattle.records.specs.declared.token.Token.the-variants.{Class, Everything, Constant, Both, Empty, Forward, Backward, Reached, Common, Mark}
 use Rattle.records.specs.declared.concept.ConceptAnswer.{ConceptAnswer}
 use Rattle.records.specs.declared.concept.ConceptAnswer.the-variants as concept
 use Rattle.records.specs.Finite.{any, count}
 use Rattle.records.specs.Layout.{conceptLayout, sizeAt, entries, leftAt, rightAt, maxTokens}
 use Rattle.records.specs.ConceptRecord.{tokenAt, Item, Pile, pileAfter}
 use Rattle.records.specs.Named.{namedIn}
+use Rattle.records.specs.Marks.{allows}
 use Rattle.records.specs.Shape.{misshapen, outside}
 
 -- 3. A concept has fewer words than its sizes, n of 0 or above its limit, or a length other than its entries make.
@@ -33,11 +33,13 @@ suits s (Forward P) x = ltb P (s .attributes)
 suits s (Backward P) x = ltb P (s .attributes)
 suits s Reached x = eqb x 0
 suits s Common x = eqb x 0
+suits s (Mark k) x = allows s k
 
 unfoldable pub faultyToken : Signature → List ℕ → ℕ → Bool
-faultyToken s w i = outside 1 9 (leftAt conceptLayout w i) || not (suits s (tokenAt w i) (rightAt conceptLayout w i))
+faultyToken s w i = outside 1 10 (leftAt conceptLayout w i) || not (suits s (tokenAt w i) (rightAt conceptLayout w i))
 
--- 4. A token has a sort outside 1 to 9, an undeclared argument, or an argument other than 0 where it has none.
+-- 4. A token has a sort outside 1 to 10, an undeclared argument, a mark that may not stand there, or an argument other than 0
+-- where it has none.
 unfoldable pub refusal-4 : Signature → List ℕ → Bool
 refusal-4 s w = any (entries conceptLayout w) (faultyToken s w)
 
@@ -63,6 +65,7 @@ isStep (Forward P) = true
 isStep (Backward P) = true
 isStep Reached = false
 isStep Common = false
+isStep (Mark k) = false
 
 abbrev pub stepAt : List ℕ → ℕ → Bool
 stepAt w i = isStep (tokenAt w i)

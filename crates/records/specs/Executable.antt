@@ -7,7 +7,7 @@ use Rattle.records.specs.declared.schema.Axiom.the-variants.{Subclass, T
 use Rattle.records.specs.Finite.{all, any, least}
 use Rattle.records.specs.State.{State}
 use Rattle.records.specs.Schema.{Schema}
-use Rattle.records.specs.Concept.{Direction, forward, backward, Concept, class, everything, constant, both, reached, common, Path, empty, step}
+use Rattle.records.specs.Concept.{Direction, forward, backward, Concept, class, everything, constant, both, reached, common, mark, Path, empty, step}
 
 abbrev pub stepsTo : State → Direction → ℕ → ℕ → ℕ → Bool
 stepsTo I forward P d e = I .pairs P d e
@@ -22,6 +22,7 @@ module _ (I : State) where
     isIn (both C D) d = isIn C d && isIn D d
     isIn (reached p) d = any (I .size) λ e. leadsTo p d e
     isIn (common p q) d = any (I .size) λ e. leadsTo p d e && leadsTo q d e
+    isIn (mark k) d = eqb d (I .marks k)
 
     pub leadsTo : Path → ℕ → ℕ → Bool
     leadsTo empty d e = eqb d e

@@ -52,6 +52,9 @@ maxAttributes = 8
 abbrev pub maxConstants : ℕ
 maxConstants = 4
 
+abbrev pub maxMarks : ℕ
+maxMarks = 4
+
 abbrev pub maxAxioms : ℕ
 maxAxioms = 96
 
@@ -64,6 +67,13 @@ querySteps = 16
 abbrev pub viewSteps : ℕ
 viewSteps = 6
 
+-- The marks that a concept may name, as a set: those of a query, and those of every other concept.
+abbrev pub queryMarks : ℕ
+queryMarks = 15
+
+abbrev pub noMarks : ℕ
+noMarks = 0
+
 abbrev pub maxViews : ℕ
 maxViews = 16
 
@@ -71,7 +81,7 @@ abbrev pub maxObjects : ℕ
 maxObjects = 480
 
 abbrev pub maxFacts : ℕ
-maxFacts = 15_380
+maxFacts = 15_384
 
 -- the words that a state of any accepted size takes
 unfoldable pub maxStateWords : ℕ
@@ -98,6 +108,10 @@ attributeKinds = 24
 abbrev pub constantKinds : ℕ
 constantKinds = 32
 
+-- the first fact kind of marks
+abbrev pub markKinds : ℕ
+markKinds = 36
+
 -- one past the last fact kind
 abbrev pub factKinds : ℕ
-factKinds = 36
+factKinds = 40

@@ -12,8 +12,9 @@ pub mod SchemaRecord
 pub mod ConceptRecord
 pub mod StateRecord
 pub mod Encoding
--- What a concept names, and views in a catalogue (document 02).
+-- What a concept names, its marks, and views in a catalogue (document 02).
 pub mod Named
+pub mod Marks
 pub mod CatalogueRecord
 -- Turned back, in checking order.
 pub mod Shape

@@ -1,4 +1,4 @@
--- Document 02, note 2: what a concept names. Constants are no names, and neither is what the axioms mention.
+-- Document 02, note 2: what a concept names. Constants and marks are no names, and neither is what the axioms mention.
 use Prim.Native.Nat.{ℕ, _<_}
 use mathlib.Core.List.{List}
 use mathlib.Core.Bool.{Bool, false, So}
@@ -7,7 +7,7 @@ use mathlib.Core.Path.{_≡_}
 use lib.Count.{ones}
 use lib.Dec.{eqb}
 use Rattle.records.specs.declared.token.Token.{Token}
-use Rattle.records.specs.declared.token.Token.the-variants.{Class, Everything, Constant, Both, Empty, Forward, Backward, Reached, Common}
+use Rattle.records.specs.declared.token.Token.the-variants.{Class, Everything, Constant, Both, Empty, Forward, Backward, Reached, Common, Mark}
 use Rattle.records.specs.declared.named.Named.{Named}
 use Rattle.records.specs.Finite.{any, count, bit, setOf}
 use Rattle.records.specs.Layout.{conceptLayout, entries, maxClasses, maxAttributes}
@@ -32,6 +32,7 @@ hasClass A (Forward P) = false
 hasClass A (Backward P) = false
 hasClass A Reached = false
 hasClass A Common = false
+hasClass A (Mark k) = false
 
 abbrev pub hasAttribute : ℕ → Token → Bool
 hasAttribute P (Class A) = false
@@ -43,6 +44,7 @@ hasAttribute P (Forward Q) = eqb P Q
 hasAttribute P (Backward Q) = eqb P Q
 hasAttribute P Reached = false
 hasAttribute P Common = false
+hasAttribute P (Mark k) = false
 
 unfoldable pub classNamed : List ℕ → ℕ → Bool
 classNamed w A = any (entries conceptLayout w) λ i. hasClass A (tokenAt w i)

@@ -7,10 +7,11 @@ use mathlib.Core.Bool.{Bool, cond}
 use lib.Dec.{eqb, ltb, leb}
 use lib.ListN.{length}
 use Rattle.records.specs.declared.schema.Signature.{Signature}
-use Rattle.records.specs.Layout.{querySteps, viewSteps}
+use Rattle.records.specs.Layout.{querySteps, viewSteps, queryMarks}
 use Rattle.records.specs.SchemaRecord.{signatureOf}
 use Rattle.records.specs.SchemaRefusal.{schemaAnswer, schemaNumber}
 use Rattle.records.specs.ConceptRefusal.{conceptAnswer, conceptNumber}
+use Rattle.records.specs.Marks.{allowing, usedMarks}
 use Rattle.records.specs.StateRefusal.{stateAnswer, stateNumber}
 
 -- 11. The lent words (words of the caller's that an answer is written to) are fewer than it needs.
@@ -24,14 +25,29 @@ refusal-12 s P = leb (s .attributes) P
 abbrev pub schemaRefusal : List ℕ → ℕ
 schemaRefusal schema = schemaNumber (schemaAnswer schema)
 
+-- of a concept that is no view and may have no mark, as select's
+abbrev pub plainRefusal : List ℕ → List ℕ → ℕ
+plainRefusal schema concept = conceptNumber (conceptAnswer querySteps (signatureOf schema) concept)
+
+-- what a query may name: marks too
+abbrev pub querySignature : List ℕ → Signature
+querySignature schema = allowing queryMarks (signatureOf schema)
+
 abbrev pub queryRefusal : List ℕ → List ℕ → ℕ
-queryRefusal schema query = conceptNumber (conceptAnswer querySteps (signatureOf schema) query)
+queryRefusal schema query = conceptNumber (conceptAnswer querySteps (querySignature schema) query)
 
 abbrev pub viewRefusal : List ℕ → List ℕ → ℕ
 viewRefusal schema view = conceptNumber (conceptAnswer viewSteps (signatureOf schema) view)
 
 abbrev pub stateRefusal : List ℕ → List ℕ → ℕ
 stateRefusal schema state = stateNumber (stateAnswer (signatureOf schema) state)
+
+-- what a state for a query gives an object to: the marks that the query uses, too
+abbrev pub choiceSignature : List ℕ → List ℕ → Signature
+choiceSignature schema query = allowing (usedMarks query) (signatureOf schema)
+
+abbrev pub choiceRefusal : List ℕ → List ℕ → List ℕ → ℕ
+choiceRefusal schema query state = stateNumber (stateAnswer (choiceSignature schema query) state)
 
 abbrev pub lentRefusal : ℕ → List ℕ → ℕ
 lentRefusal needed lent = cond (refusal-11 needed lent) 11 0

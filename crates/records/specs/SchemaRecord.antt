@@ -7,10 +7,12 @@ use Rattle.records.specs.declared.schema.Axiom.{Axiom}
 use Rattle.records.specs.declared.schema.Axiom.the-variants.{Subclass, Typing, Necessary, Single, Relates}
 use Rattle.records.specs.declared.schema.Signature.{Signature}
 use Rattle.records.specs.Schema.{Schema}
-use Rattle.records.specs.Layout.{schemaLayout, sizeAt, entries, leftAt, rightAt, bytePart}
+use Rattle.records.specs.Layout.{schemaLayout, sizeAt, entries, leftAt, rightAt, bytePart, noMarks}
 
+-- (The schema's own signature allows no mark.)
 unfoldable pub signatureOf : List ℕ → Signature
-signatureOf w = record { classes = sizeAt w 0; attributes = sizeAt w 1; constants = sizeAt w 2; loose = sizeAt w 4 }
+signatureOf w =
+    record { classes = sizeAt w 0; attributes = sizeAt w 1; constants = sizeAt w 2; loose = sizeAt w 4; marks = noMarks }
 
 -- Left is the kind and the subject: class A for kinds 1 to 4, attribute P for kind 5.
 unfoldable pub axiomKind : ℕ → ℕ

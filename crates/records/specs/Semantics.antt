@@ -2,7 +2,7 @@
 use Prim.Native.Nat.{ℕ, _<_}
 use mathlib.Core.Path.{_≡_}
 use Rattle.records.specs.State.{State, Member, Related, Some}
-use Rattle.records.specs.Concept.{Direction, forward, backward, Concept, class, everything, constant, both, reached, common, Path, empty, step}
+use Rattle.records.specs.Concept.{Direction, forward, backward, Concept, class, everything, constant, both, reached, common, mark, Path, empty, step}
 
 -- a step of attribute P leads from d to e
 abbrev pub Steps : State → Direction → ℕ → ℕ → ℕ → Type 0
@@ -19,6 +19,7 @@ module _ (I : State) where
     In (both C D) d = In C d × In D d
     In (reached p) d = Some I λ e. Leads p d e
     In (common p q) d = Some I λ e. Leads p d e × Leads q d e
+    In (mark k) d = d ≡ I .marks k
 
     -- the path leads from object d to object e
     pub Leads : Path → ℕ → ℕ → Type 0

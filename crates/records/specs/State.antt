@@ -7,12 +7,14 @@ use Rattle.records.specs.declared.schema.Signature.{Signature}
 use Rattle.records.specs.Finite.{any, bit}
 
 -- A finite set of objects, the numbers below `size` (it may be empty); a set of objects for each class;
--- a set of ordered pairs for each attribute; and an object for each constant.
+-- a set of ordered pairs for each attribute; an object for each constant; and the choice, an object for each mark (document 02,
+-- note 6).
 pub record State : Type 0 where
   pub size : ℕ
   pub members : ℕ → ℕ → Bool
   pub pairs : ℕ → ℕ → ℕ → Bool
   pub names : ℕ → ℕ
+  pub marks : ℕ → ℕ
 
 -- object d is in class A
 abbrev pub Member : State → ℕ → ℕ → Type 0

@@ -5,7 +5,7 @@ use mathlib.Core.Bool.{Bool, _&&_}
 use lib.Dec.{eqb}
 use Rattle.records.specs.Finite.{any, least}
 use Rattle.records.specs.State.{State}
-use Rattle.records.specs.Layout.{stateLayout, sizeAt, entries, leftAt, rightAt, objectPart, attributeKinds, constantKinds}
+use Rattle.records.specs.Layout.{stateLayout, sizeAt, entries, leftAt, rightAt, objectPart, attributeKinds, constantKinds, markKinds}
 
 unfoldable pub objects : List ℕ → ℕ
 objects w = sizeAt w 0
@@ -27,8 +27,8 @@ saysPair w k d e =
     any (entries stateLayout w) λ i. eqb (kindAt w i) k && eqb (objectAt w i) d && eqb (rightAt stateLayout w i) e
 
 -- The first kinds put the object in that class; then come the attributes, with the object as first of a pair,
--- and then the constants whose object it is. (A constant without an object is refused: it gets N, which is none.)
--- (A class or attribute number past the last reads facts of other kinds; nothing that is accepted asks for one.)
+-- and then the constants and the marks whose object it is. (One without an object gets N, which is none.)
+-- (A number past the last of its sort reads facts of other kinds; nothing that is accepted asks for one.)
 unfoldable pub stateOf : List ℕ → State
 stateOf w =
     record {
@@ -36,4 +36,5 @@ stateOf w =
       members = λ A d. says w A d;
       pairs = λ P d e. saysPair w (attributeKinds + P) d e;
       names = λ a. least (objects w) λ d. says w (constantKinds + a) d;
+      marks = λ k. least (objects w) λ d. says w (markKinds + k) d;
     }

@@ -2,30 +2,30 @@
 -- that applies. The numbers are the paper's, and 0 for an accepted record.
 use Prim.Native.Nat.{ℕ, suc, _+_, _-_}
 use mathlib.Core.List.{List, []}
-use mathlib.Core.Option.{none}
 use mathlib.Core.Bool.{Bool, cond, not, _&&_, _||_}
 use mathlib.Core.Path.{_≡_}
 use lib.Dec.{eqb, ltb, leb}
-use lib.ListN.{length}
 use Rattle.records.specs.declared.schema.Signature.{Signature}
 use Rattle.records.specs.declared.state.StateAnswer.{StateAnswer}
 use Rattle.records.specs.declared.state.StateAnswer.the-variants as state
 use Rattle.records.specs.Finite.{any, count}
 use Rattle.records.specs.State.{repeats}
-use Rattle.records.specs.Layout.{stateLayout, entries, leftAt, rightAt, maxObjects, maxFacts, attributeKinds, constantKinds, factKinds}
+use Rattle.records.specs.Layout.{stateLayout, entries, leftAt, rightAt, maxObjects, maxFacts, attributeKinds, constantKinds, markKinds, maxMarks}
 use Rattle.records.specs.StateRecord.{objects, kindAt, objectAt, stateOf}
+use Rattle.records.specs.Marks.{allows}
 use Rattle.records.specs.Shape.{misshapen}
 
 -- 7. A state has fewer words than its sizes, a size above its limit, or a length other than its entries make.
 unfoldable pub refusal-7 : List ℕ → Bool
 refusal-7 w = ltb maxObjects (objects w) || ltb maxFacts (entries stateLayout w) || misshapen stateLayout w
 
--- the fact kind is one of a declared class, attribute or constant
+-- the fact kind is one of a declared class, attribute or constant, or of an allowed mark
 abbrev pub declaresKind : Signature → ℕ → Bool
 declaresKind s k =
     cond (ltb k attributeKinds) (ltb k (s .classes))
     (cond (ltb k constantKinds) (ltb (k - attributeKinds) (s .attributes))
-    (ltb k factKinds && ltb (k - constantKinds) (s .constants)))
+    (cond (ltb k markKinds) (ltb (k - constantKinds) (s .constants))
+    (allows s (k - markKinds))))
 
 -- the second object of a pair, otherwise 0
 abbrev pub suitsKind : ℕ → ℕ → ℕ → Bool
@@ -37,8 +37,8 @@ faultyFact s w i =
     || leb (objects w) (objectAt w i)
     || not (suitsKind (objects w) (kindAt w i) (rightAt stateLayout w i))
 
--- 8. A fact has a kind above the last, an undeclared class, attribute or constant, an object not below N, or a right word
--- other than 0 where no pair is meant.
+-- 8. A fact has a kind above the last, an undeclared class, attribute or constant, a mark that is not allowed, an object not
+-- below N, or a right word other than 0 where no pair is meant.
 unfoldable pub refusal-8 : Signature → List ℕ → Bool
 refusal-8 s w = any (entries stateLayout w) (faultyFact s w)
 
@@ -64,9 +64,18 @@ namesAt w a i = eqb (kindAt w i) (constantKinds + a)
 abbrev pub misnames : Signature → List ℕ → ℕ → Bool
 misnames s w a = not (eqb (count (entries stateLayout w) (namesAt w a)) 1) || repeats s (stateOf w .names) a
 
--- 10. A declared constant has no object or several, or two constants, neither of them loose, have the same object.
+-- fact i gives mark k its object
+abbrev pub marksAt : List ℕ → ℕ → ℕ → Bool
+marksAt w k i = eqb (kindAt w i) (markKinds + k)
+
+-- mark k is allowed, and has no object or several
+abbrev pub mismarks : Signature → List ℕ → ℕ → Bool
+mismarks s w k = allows s k && not (eqb (count (entries stateLayout w) (marksAt w k)) 1)
+
+-- 10. A declared constant or an allowed mark has no object or several, or two constants, neither of them loose, have the same
+-- object.
 unfoldable pub refusal-10 : Signature → List ℕ → Bool
-refusal-10 s w = any (s .constants) (misnames s w)
+refusal-10 s w = any (s .constants) (misnames s w) || any maxMarks (mismarks s w)
 
 unfoldable pub stateAnswer : Signature → List ℕ → StateAnswer
 stateAnswer s w =

@@ -1,6 +1,8 @@
 // The check of a concept record: that its tokens make one concept, of declared names and few enough steps, and what they name.
 use crate::layout::misshapen;
 use crate::layout::word;
+use crate::marks::allow;
+use crate::marks::allows;
 use crate::named::Named;
 use crate::scan::START;
 use crate::scan::Scan;
@@ -14,23 +16,38 @@ use crate::token::token_of;
 use crate::token::tokens;
 ghost use mathlib.Core.Path.{_≡_};
 ghost use mathlib.Core.Bool.{not, _||_};
-ghost use Rattle.records.specs.Layout.{querySteps, viewSteps};
+ghost use Rattle.records.specs.Layout.{querySteps, viewSteps, queryMarks, noMarks};
 ghost use Rattle.records.specs.ConceptRecord.{tokenOf};
+ghost use Rattle.records.specs.Marks.{allowing};
 ghost use Rattle.records.specs.Shape.{outside};
 ghost use Rattle.records.specs.Helpers.Scan.{scanAnswer};
 ghost use Rattle.records.specs.ConceptRefusal.{suits as suitsIn, refusal-3, conceptAnswer, conceptNumber};
 
-// The roles of a concept, with the most steps that each may have.
+// The roles of a concept, with the most steps that each may have and the set of marks that it allows.
+// What is selected, or has its links counted.
+pub struct Plain;
+
+impl Plain {
+    pub const STEPS: usize = 16;
+
+    pub const MARKS: u32 = 0;
+}
+
+// What is decided on, or has a counterexample.
 pub struct Query;
 
 impl Query {
     pub const STEPS: usize = 16;
+
+    pub const MARKS: u32 = 15;
 }
 
 pub struct View;
 
 impl View {
     pub const STEPS: usize = 6;
+
+    pub const MARKS: u32 = 0;
 }
 
 pub enum ConceptAnswer {
@@ -70,14 +87,15 @@ fn suits(s: Signature, token: Token, argument: usize) -> bool
         Token::Backward(p) => p < s.attributes,
         Token::Reached => argument == 0,
         Token::Common => argument == 0,
+        Token::Mark(k) => allows(s, k),
     }
 }
 
 // Refusal 4 for a token of this sort and argument.
 fn faulty_token(s: Signature, sort: usize, argument: usize) -> bool
-    ensures { λ r. ⌜ r ≡ (outside 1 9 sort || not (suitsIn s (tokenOf sort argument) argument)) ⌝ }
+    ensures { λ r. ⌜ r ≡ (outside 1 10 sort || not (suitsIn s (tokenOf sort argument) argument)) ⌝ }
 {
-    (sort < 1) | (9 < sort) | !suits(s, token_of(sort, argument), argument)
+    (sort < 1) | (10 < sort) | !suits(s, token_of(sort, argument), argument)
 }
 
 // Refusal 3.
@@ -122,14 +140,20 @@ pub fn check_concept(limit: usize, s: Signature, words: &[u16]) -> ConceptAnswer
     answer(limit, word(words, 1), scan)
 }
 
-pub fn check_query(s: Signature, words: &[u16]) -> ConceptAnswer
-    ensures { λ r. ⌜ r ≡ conceptAnswer querySteps s (now (words .entry)) ⌝ }
+pub fn check_plain(s: Signature, words: &[u16]) -> ConceptAnswer
+    ensures { λ r. ⌜ r ≡ conceptAnswer querySteps (allowing noMarks s) (now (words .entry)) ⌝ }
 {
-    check_concept(Query::STEPS, s, words)
+    check_concept(Plain::STEPS, allow(s, Plain::MARKS), words)
+}
+
+pub fn check_query(s: Signature, words: &[u16]) -> ConceptAnswer
+    ensures { λ r. ⌜ r ≡ conceptAnswer querySteps (allowing queryMarks s) (now (words .entry)) ⌝ }
+{
+    check_concept(Query::STEPS, allow(s, Query::MARKS), words)
 }
 
 pub fn check_view(s: Signature, words: &[u16]) -> ConceptAnswer
-    ensures { λ r. ⌜ r ≡ conceptAnswer viewSteps s (now (words .entry)) ⌝ }
+    ensures { λ r. ⌜ r ≡ conceptAnswer viewSteps (allowing noMarks s) (now (words .entry)) ⌝ }
 {
-    check_concept(View::STEPS, s, words)
+    check_concept(View::STEPS, allow(s, View::MARKS), words)
 }

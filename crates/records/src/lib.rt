@@ -5,6 +5,7 @@ pub mod catalogue;
 pub mod check;
 pub mod concept;
 pub mod layout;
+pub mod marks;
 pub mod named;
 pub mod reading;
 mod scan;

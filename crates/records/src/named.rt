@@ -17,7 +17,7 @@ pub struct Named {
 }
 
 // The set of the number alone. A number past the limit is in no set, so no caller has to show a bound.
-fn only(limit: usize, number: usize) -> u32
+pub fn only(limit: usize, number: usize) -> u32
     requires { ⌜ limit ≤ 32 ⌝ }
     ensures { λ r. ⌜ r ≡ setOf limit (λ k. eqb k number) ⌝ }
 {

@@ -20,6 +20,7 @@ fn takes(token: Token) -> usize
         Token::Backward(_) => 2,
         Token::Reached => 1,
         Token::Common => 2,
+        Token::Mark(_) => 0,
     }
 }
 

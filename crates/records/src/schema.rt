@@ -26,13 +26,15 @@ pub const SCHEMA_SIZES: usize = 5;
 // A word of two parts is the first times this plus the second.
 const BYTE_PART: usize = 256;
 
-// How many classes, attributes and constants are declared; each is numbered from 0.
+// How many classes, attributes and constants are declared, each numbered from 0, and which marks may be named.
 pub struct Signature {
     pub classes: usize,
     pub attributes: usize,
     pub constants: usize,
     // The set of the loose constants: bit k, from the lowest, is constant k.
     pub loose: usize,
+    // The set of the marks that are allowed.
+    pub marks: u32,
 }
 
 // The five kinds of axiom, in the paper's order.
@@ -93,6 +95,7 @@ pub fn signature_of(words: &[u16]) -> Signature
         attributes: word(words, 1),
         constants: word(words, 2),
         loose: word(words, 4),
+        marks: 0,
     }
 }
 

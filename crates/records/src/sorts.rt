@@ -82,6 +82,7 @@ impl Sorts {
             Token::Backward(_) => self.join(2, 1),
             Token::Reached => self.reach(),
             Token::Common => self.join(3, 0),
+            Token::Mark(_) => self.put(0),
         }
     }
 

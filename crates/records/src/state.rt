@@ -5,21 +5,24 @@ use crate::layout::left;
 use crate::layout::misshapen;
 use crate::layout::right;
 use crate::layout::word;
+use crate::marks::MAX_MARKS;
+use crate::marks::allows;
 use crate::schema::Signature;
 use crate::schema::differ;
+ghost use mathlib.Core.Bool.{_||_};
 ghost use mathlib.Core.Path.{_≡_};
-ghost use Prim.Native.Nat.{_<_, _^_};
+ghost use Prim.Native.Nat.{suc, _<_, _^_};
 ghost use lib.ListN.{length};
 ghost use Rattle.records.specs.Helpers.Word.{IsWord, IsLayout};
 ghost use Rattle.records.specs.Layout.{entries as entriesOf, stateLayout};
 ghost use Rattle.records.specs.StateRecord.{objects as objectsOf, kindAt, objectAt};
 ghost use Rattle.records.specs.StateRefusal.{refusal-7, declaresKind, suitsKind, faultyFact, ascends as ascendsAt, stateAnswer, stateNumber};
-ghost use Rattle.records.specs.Helpers.Scan.{followsAt, slotOf, namedIn, misnamed as misnamedIn};
+ghost use Rattle.records.specs.Helpers.Scan.{followsAt, slots, slotOf, namedIn, misnamed as misnamedIn, mismarked as mismarkedIn};
 ghost use Rattle.records.specs.State.{repeats as repeatsIn};
 
 pub const MAX_OBJECTS: usize = 480;
 
-pub const MAX_FACTS: usize = 15_380;
+pub const MAX_FACTS: usize = 15_384;
 // Objects, facts.
 pub const STATE_SIZES: usize = 2;
 // The most words of an accepted record.
@@ -28,13 +31,15 @@ pub const STATE_WORDS: usize = STATE_SIZES + 2 * MAX_FACTS;
 pub const OBJECT_PART: usize = 512;
 // A fact as one number is its left word times this plus its right word.
 pub const WORD_PART: usize = 65_536;
-// The first kind of attributes, the first of constants, and one past the last.
+// The first kind of attributes, the first of constants, the first of marks, and one past the last.
 pub const ATTRIBUTE_KINDS: usize = 24;
 
 pub const CONSTANT_KINDS: usize = 32;
 
-pub const FACT_KINDS: usize = 36;
-// A place for each constant that a fact can name, and one more for all other facts.
+pub const MARK_KINDS: usize = 36;
+
+pub const FACT_KINDS: usize = 40;
+// A place for each constant and mark to which a fact can give its object, and one more for all other facts.
 const SLOTS: usize = FACT_KINDS - CONSTANT_KINDS + 1;
 
 pub enum StateAnswer {
@@ -104,7 +109,10 @@ fn declares_kind(s: Signature, kind: usize) -> bool
     if kind < CONSTANT_KINDS {
         return kind - ATTRIBUTE_KINDS < s.attributes;
     }
-    (kind < FACT_KINDS) & (kind - CONSTANT_KINDS < s.constants)
+    if kind < MARK_KINDS {
+        return kind - CONSTANT_KINDS < s.constants;
+    }
+    allows(s, kind - MARK_KINDS)
 }
 
 fn suits_kind(n: usize, kind: usize, right: usize) -> bool
@@ -149,9 +157,9 @@ fn follows(words: &[u16], i: usize) -> bool
     if i == 0 { true } else { ascends(words, i - 1) }
 }
 
-// The constant that a fact of this kind names, or the place of all other facts.
+// The constant or mark to which a fact of this kind gives its object, or the place of all other facts.
 fn slot(kind: usize) -> usize
-    ensures { λ r. ⌜ (r ≡ slotOf kind) × (r < 5) ⌝ }
+    ensures { λ r. ⌜ (r ≡ slotOf kind) × (r < suc slots) ⌝ }
 {
     if (CONSTANT_KINDS <= kind) & (kind < FACT_KINDS) {
         kind - CONSTANT_KINDS
@@ -162,7 +170,7 @@ fn slot(kind: usize) -> usize
 
 // Constant `a` clashes with an earlier one.
 fn repeats(s: Signature, named: &[usize; SLOTS], a: usize) -> bool
-    requires { ⌜ (a < 5) × (length (now named) ≡ 5) ⌝ }
+    requires { ⌜ (a < suc slots) × (length (now named) ≡ suc slots) ⌝ }
     ensures { λ r. ⌜ r ≡ repeatsIn s (namedIn (now (named .entry))) a ⌝ }
 {
     for b in 0..a {
@@ -173,9 +181,9 @@ fn repeats(s: Signature, named: &[usize; SLOTS], a: usize) -> bool
     false
 }
 
-// Refusal 10, from how many facts name each constant and the object of the last of them.
+// Refusal 10 of the constants, from how many facts name each and the object of the last of them.
 fn misnamed(s: Signature, counts: &[usize; SLOTS], named: &[usize; SLOTS]) -> bool
-    requires { ⌜ (length (now counts) ≡ 5) × (length (now named) ≡ 5) ⌝ }
+    requires { ⌜ (length (now counts) ≡ suc slots) × (length (now named) ≡ suc slots) ⌝ }
     ensures { λ r. ⌜ r ≡ misnamedIn s (now (counts .entry)) (now (named .entry)) ⌝ }
 {
     if FACT_KINDS - CONSTANT_KINDS < s.constants {
@@ -187,6 +195,27 @@ fn misnamed(s: Signature, counts: &[usize; SLOTS], named: &[usize; SLOTS]) -> bo
         }
     }
     false
+}
+
+// Refusal 10 of the marks, from how many facts give each its object.
+fn mismarked(s: Signature, counts: &[usize; SLOTS]) -> bool
+    requires { ⌜ length (now counts) ≡ suc slots ⌝ }
+    ensures { λ r. ⌜ r ≡ mismarkedIn s (now (counts .entry)) ⌝ }
+{
+    for k in 0..MAX_MARKS {
+        if allows(s, k) & (counts[MARK_KINDS - CONSTANT_KINDS + k] != 1) {
+            return true;
+        }
+    }
+    false
+}
+
+// Refusal 10.
+fn bad_names(s: Signature, counts: &[usize; SLOTS], named: &[usize; SLOTS]) -> bool
+    requires { ⌜ (length (now counts) ≡ suc slots) × (length (now named) ≡ suc slots) ⌝ }
+    ensures { λ r. ⌜ r ≡ (misnamedIn s (now (counts .entry)) (now (named .entry)) || mismarkedIn s (now (counts .entry))) ⌝ }
+{
+    misnamed(s, counts, named) | mismarked(s, counts)
 }
 
 // Refusal 7.
@@ -220,7 +249,7 @@ pub fn check_state(s: Signature, words: &[u16]) -> StateAnswer
     if !ascending {
         return StateAnswer::BadOrder;
     }
-    if misnamed(s, &counts, &named) {
+    if bad_names(s, &counts, &named) {
         return StateAnswer::BadConstants;
     }
     StateAnswer::Accepted

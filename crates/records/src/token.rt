@@ -14,7 +14,7 @@ pub const MAX_TOKENS: usize = 64;
 // Tokens, steps.
 pub const CONCEPT_SIZES: usize = 2;
 
-// The nine sorts of token, in the paper's order.
+// The ten sorts of token, in the paper's order.
 pub enum Token {
     Class(usize),
     Everything,
@@ -25,6 +25,7 @@ pub enum Token {
     Backward(usize),
     Reached,
     Common,
+    Mark(usize),
 }
 
 pub fn concept_layout() -> Layout
@@ -54,7 +55,8 @@ pub fn token_of(sort: usize, argument: usize) -> Token
         6 => Token::Forward(argument),
         7 => Token::Backward(argument),
         8 => Token::Reached,
-        _ => Token::Common,
+        9 => Token::Common,
+        _ => Token::Mark(argument),
     }
 }
 
@@ -92,5 +94,6 @@ pub fn is_step(token: Token) -> bool
         Token::Backward(_) => true,
         Token::Reached => false,
         Token::Common => false,
+        Token::Mark(_) => false,
     }
 }

@@ -3,8 +3,8 @@ use Prim.Native.Nat.{_<_}
 use Rattle.records.specs.declared.schema.Axiom.{Axiom}
 use Rattle.records.specs.declared.schema.Axiom.the-variants.{Subclass, Typing, Necessary, Single, Relates}
 use Rattle.records.specs.declared.token.Token.{Token}
-use Rattle.records.specs.declared.token.Token.the-variants.{Class, Everything, Constant, Both, Empty, Forward, Backward, Reached, Common}
-use Rattle.records.specs.Layout.{maxClasses, maxAttributes, maxConstants}
+use Rattle.records.specs.declared.token.Token.the-variants.{Class, Everything, Constant, Both, Empty, Forward, Backward, Reached, Common, Mark}
+use Rattle.records.specs.Layout.{maxClasses, maxAttributes, maxConstants, maxMarks}
 
 abbrev pub AxiomInRange : Axiom → Type 0
 AxiomInRange (Subclass A B) = (A < maxClasses) × (B < maxClasses)
@@ -23,3 +23,4 @@ TokenInRange (Forward P) = P < maxAttributes
 TokenInRange (Backward P) = P < maxAttributes
 TokenInRange Reached = Unit {0}
 TokenInRange Common = Unit {0}
+TokenInRange (Mark k) = k < maxMarks

@@ -4,7 +4,7 @@ use mathlib.Core.List.{List, [], _∷_}
 use mathlib.Core.Option.{none, some}
 use mathlib.Core.Path.{_≡_}
 use Rattle.records.specs.declared.token.Token.{Token}
-use Rattle.records.specs.declared.token.Token.the-variants.{Class, Everything, Constant, Both, Empty, Forward, Backward, Reached, Common}
+use Rattle.records.specs.declared.token.Token.the-variants.{Class, Everything, Constant, Both, Empty, Forward, Backward, Reached, Common, Mark}
 use Rattle.records.specs.Finite.{count}
 use Rattle.records.specs.Concept.{Direction, forward, backward, Concept, Path, empty}
 use Rattle.records.specs.ConceptRecord.{Item, concept, path, Pile, tokenAt, pileAfter, topConcept}
@@ -42,6 +42,7 @@ takes (Forward P) = 2
 takes (Backward P) = 2
 takes Reached = 1
 takes Common = 2
+takes (Mark k) = 0
 
 -- where the tokens of the k topmost items after e tokens start: a scan to the left that counts the items still wanted
 unfoldable pub startOf : List ℕ → ℕ → ℕ → ℕ

@@ -1,5 +1,5 @@
 -- What the checks keep while they scan a record, as plain functions: a schema's tests, the pile's sorts, the steps and names, and the
--- constants' objects.
+-- constants' and marks' objects.
 -- Contracts of helper functions cite them. ConceptScanLaws and StateScanLaws of proofs/ tie them to the refusals.
 use Prim.Native.Nat.{ℕ, zero, suc, _+_, _-_, _*_, _/_, _%_}
 use mathlib.Core.List.{List}
@@ -13,7 +13,7 @@ use Rattle.records.specs.declared.schema.Signature.{Signature}
 use Rattle.records.specs.declared.schema.SchemaAnswer.{SchemaAnswer}
 use Rattle.records.specs.declared.schema.SchemaAnswer.the-variants as schema
 use Rattle.records.specs.declared.token.Token.{Token}
-use Rattle.records.specs.declared.token.Token.the-variants.{Class, Everything, Constant, Both, Empty, Forward, Backward, Reached, Common}
+use Rattle.records.specs.declared.token.Token.the-variants.{Class, Everything, Constant, Both, Empty, Forward, Backward, Reached, Common, Mark}
 use Rattle.records.specs.declared.sorts.Sorts.{Sorts}
 use Rattle.records.specs.declared.scan.Scan.{Scan}
 use Rattle.records.specs.declared.named.Named.{Named}
@@ -21,7 +21,8 @@ use Rattle.records.specs.declared.concept.ConceptAnswer.{ConceptAnswer}
 use Rattle.records.specs.declared.concept.ConceptAnswer.the-variants as concept
 use Rattle.records.specs.Finite.{any, setOf}
 use Rattle.records.specs.State.{repeats}
-use Rattle.records.specs.Layout.{maxClasses, maxAttributes, constantKinds, factKinds, maxConstants}
+use Rattle.records.specs.Layout.{maxClasses, maxAttributes, maxConstants, maxMarks, constantKinds, factKinds}
+use Rattle.records.specs.Marks.{allows}
 use Rattle.records.specs.Named.{hasClass, hasAttribute}
 use Rattle.records.specs.ConceptRefusal.{isStep}
 use Rattle.records.specs.StateRefusal.{ascends}
@@ -53,6 +54,7 @@ pushOk (Forward P) σ = joinSorts σ 2 1
 pushOk (Backward P) σ = joinSorts σ 2 1
 pushOk Reached σ = reachSort σ
 pushOk Common σ = joinSorts σ 3 0
+pushOk (Mark k) σ = putSort σ 0
 
 abbrev pub pushSort : Token → Sorts → Sorts
 pushSort t σ = cond (σ .ok) (pushOk t σ) σ
@@ -86,9 +88,13 @@ unfoldable pub followsAt : List ℕ → ℕ → Bool
 followsAt w zero = true
 followsAt w (suc i) = ascends w i
 
--- the constant that a fact of this kind names, or one past the last
+-- the slots of constants and marks, the marks after the constants; one more is of all other facts
+abbrev pub slots : ℕ
+slots = maxConstants + maxMarks
+
+-- the slot of the constant or mark to which a fact of this kind gives its object, or one past the last
 abbrev pub slotOf : ℕ → ℕ
-slotOf k = cond (leb constantKinds k && ltb k factKinds) (k - constantKinds) maxConstants
+slotOf k = cond (leb constantKinds k && ltb k factKinds) (k - constantKinds) slots
 
 -- the object that was last seen for constant a
 abbrev pub namedIn : List ℕ → ℕ → ℕ
@@ -98,6 +104,13 @@ namedIn named a = getD named a 0
 abbrev pub misnamedAt : Signature → List ℕ → List ℕ → ℕ → Bool
 misnamedAt s counts named a = not (eqb (getD counts a 0) 1) || repeats s (namedIn named) a
 
--- and a constant that no fact can name has none
+-- and a constant whose kind is past the last has no fact
 unfoldable pub misnamed : Signature → List ℕ → List ℕ → Bool
-misnamed s counts named = ltb maxConstants (s .constants) || any (s .constants) (misnamedAt s counts named)
+misnamed s counts named = ltb slots (s .constants) || any (s .constants) (misnamedAt s counts named)
+
+-- mark k is allowed, and has no fact or several
+abbrev pub mismarkedAt : Signature → List ℕ → ℕ → Bool
+mismarkedAt s counts k = allows s k && not (eqb (getD counts (maxConstants + k) 0) 1)
+
+unfoldable pub mismarked : Signature → List ℕ → Bool
+mismarked s counts = any maxMarks (mismarkedAt s counts)

@@ -1,6 +1,6 @@
 -- How many steps a concept and a path have. Steps are numbered in postfix order, as their tokens stand.
 use Prim.Native.Nat.{ℕ, zero, suc, _+_}
-use Rattle.records.specs.Concept.{Concept, class, everything, constant, both, reached, common, Path, empty, step}
+use Rattle.records.specs.Concept.{Concept, class, everything, constant, both, reached, common, mark, Path, empty, step}
 
 abbrev mutual
   pub conceptSteps : Concept → ℕ
@@ -10,6 +10,7 @@ abbrev mutual
   conceptSteps (both C D) = conceptSteps C + conceptSteps D
   conceptSteps (reached p) = pathSteps p
   conceptSteps (common p q) = pathSteps p + pathSteps q
+  conceptSteps (mark k) = zero
 
   pub pathSteps : Path → ℕ
   pathSteps empty = zero

@@ -37,6 +37,9 @@ returns c =
     refused-at Refused _ [] _ tt
     (schema-turned (c .before .before .before .before .before .args .schema .now) (c .number .ensures) (c .before .before .check-schema .ensures) (c .before .match .keys2))
 
+allow-requires : tie.Need-allow-requires
+allow-requires c κs = search needs
+
 check-concept-requires : tie.Need-check-concept-requires
 check-concept-requires c κs = search needs
 
@@ -48,14 +51,14 @@ number-requires-2 c κs = search needs
 
 returns-2 : tie.Need-returns-2
 returns-2 c =
-    let k = c .before .before .before in
+    let k = c .before .before .before .before in
     refused-at Refused _ (schemaRefusal (S k) ∷ []) _ (schema-passed _ (accepted-schema k .1), tt)
-    (concept-turned (S k) (C k) (accepted-schema k .0) _ (c .number2 .ensures) (c .before .before .check-concept .ensures) (c .before .match2 .keys2))
+    (concept-turned (S k) (C k) (accepted-schema k .0) _ _ (c .number2 .ensures) (rw (c .before .before .before .allow .ensures) at (c .before .before .check-concept .ensures)) (c .before .match2 .keys2))
 
 returns-3 : tie.Need-returns-3
 returns-3 c =
-    let k = c .before .before .before .before in
-    let z = concept-named _ _ _ (rw (accepted-schema k .0) at (sym (c .before .before .before .check-concept .ensures) ∙ c .before .read .given .1)) in
+    let k = c .before .before .before .before .before in
+    let z = concept-named _ _ _ (rw (accepted-schema k .0) at (sym (rw (c .before .before .before .before .allow .ensures) at (c .before .before .before .check-concept .ensures)) ∙ c .before .read .given .1)) in
     ap Accepted (z .0) ∙ answered-at Refused _ _ (schema-passed _ (accepted-schema k .1), (ap conceptNumber (z .1), tt))
 
 pub check-spec : {M : Type 1} → statement M
@@ -66,6 +69,7 @@ check-spec =
     enum-known-checked
     number-requires
     returns
+    allow-requires
     check-concept-requires
     enum-known-read
     number-requires-2

@@ -30,6 +30,12 @@ enum-told-4 c = search needs
 enum-told-5 : tie.Need-enum-told-5
 enum-told-5 c = search needs
 
+enum-known-token-5 : tie.Need-enum-known-token-5
+enum-known-token-5 c = search needs
+
+allows-requires : tie.Need-allows-requires
+allows-requires c κs = tt
+
 returns : tie.Need-returns
 returns c = cc
 
@@ -57,6 +63,9 @@ returns-8 c = cc
 returns-9 : tie.Need-returns-9
 returns-9 c = cc
 
+returns-10 : tie.Need-returns-10
+returns-10 c = rw (c .before .before .token5 .given .1) (c .allows .ensures)
+
 pub suits-spec : {M : Type 1} → statement M
 suits-spec =
     tie.close
@@ -70,6 +79,8 @@ suits-spec =
     enum-known-token-4
     enum-told-4
     enum-told-5
+    enum-known-token-5
+    allows-requires
     returns
     returns-2
     returns-3
@@ -78,4 +89,5 @@ suits-spec =
     returns-6
     returns-7
     returns-8
-    returns-9)
+    returns-9
+    returns-10)

@@ -95,8 +95,8 @@ returns-3 c =
     in
     answer-9 _ _ (sym (c .before .before .before .before .before .bad-shape .ensures) ∙ c .before .before .before .before .if1 .left) (kept-8 _ _ z) (kept-9 _ _ z ∙ c .if3 .taken)
 
-misnamed-requires : tie.Need-misnamed-requires Inv-loop μ-loop
-misnamed-requires c κs = (c .before .before .before .before .loop .inv .1 .counters, c .before .before .before .before .loop .inv .1 .places)
+bad-names-requires : tie.Need-bad-names-requires Inv-loop μ-loop
+bad-names-requires c κs = (c .before .before .before .before .loop .inv .1 .counters, c .before .before .before .before .loop .inv .1 .places)
 
 returns-4 : tie.Need-returns-4 Inv-loop μ-loop
 returns-4 c =
@@ -104,7 +104,7 @@ returns-4 c =
     subst (λ (e : ℕ). Kept (c .before .before .before .before .before .before .before .before .before .before .before .args .s) (c .before .before .before .before .before .before .before .before .before .before .before .args .words .now) e (c .before .before .before .before .before .before .loop .ascending) (c .before .before .before .before .before .before .loop .counts) (c .before .before .before .before .before .before .loop .named))
     (le-antisymm (c .before .before .before .before .before .before .loop .inv .0) (c .before .before .before .before .before .loop-test .left) ∙ c .before .before .before .before .before .before .before .facts .ensures .value) (c .before .before .before .before .before .before .loop .inv .1)
     in
-    answer-10 _ _ (sym (c .before .before .before .before .before .before .before .before .before .bad-shape .ensures) ∙ c .before .before .before .before .before .before .before .before .if1 .left) (kept-8 _ _ z) (kept-9 _ _ z ∙ c .before .before .before .before .if3 .left) (sym (kept-10 _ _ z) ∙ sym (c .before .misnamed .ensures) ∙ c .if4 .taken)
+    answer-10 _ _ (sym (c .before .before .before .before .before .before .before .before .before .bad-shape .ensures) ∙ c .before .before .before .before .before .before .before .before .if1 .left) (kept-8 _ _ z) (kept-9 _ _ z ∙ c .before .before .before .before .if3 .left) (sym (kept-10 _ _ z) ∙ sym (c .before .bad-names .ensures) ∙ c .if4 .taken)
 
 returns-5 : tie.Need-returns-5 Inv-loop μ-loop
 returns-5 c =
@@ -112,7 +112,7 @@ returns-5 c =
     subst (λ (e : ℕ). Kept (c .before .before .before .before .before .before .before .before .before .before .before .args .s) (c .before .before .before .before .before .before .before .before .before .before .before .args .words .now) e (c .before .before .before .before .before .before .loop .ascending) (c .before .before .before .before .before .before .loop .counts) (c .before .before .before .before .before .before .loop .named))
     (le-antisymm (c .before .before .before .before .before .before .loop .inv .0) (c .before .before .before .before .before .loop-test .left) ∙ c .before .before .before .before .before .before .before .facts .ensures .value) (c .before .before .before .before .before .before .loop .inv .1)
     in
-    state-accepted _ _ (sym (c .before .before .before .before .before .before .before .before .before .bad-shape .ensures) ∙ c .before .before .before .before .before .before .before .before .if1 .left) (kept-8 _ _ z) (kept-9 _ _ z ∙ c .before .before .before .before .if3 .left) (sym (kept-10 _ _ z) ∙ sym (c .before .misnamed .ensures) ∙ c .if4 .left)
+    state-accepted _ _ (sym (c .before .before .before .before .before .before .before .before .before .bad-shape .ensures) ∙ c .before .before .before .before .before .before .before .before .if1 .left) (kept-8 _ _ z) (kept-9 _ _ z ∙ c .before .before .before .before .if3 .left) (sym (kept-10 _ _ z) ∙ sym (c .before .bad-names .ensures) ∙ c .if4 .left)
 
 pub check-state-spec : {M : Type 1} → statement M
 check-state-spec =
@@ -141,6 +141,6 @@ check-state-spec =
     loop-less
     loop-again
     returns-3
-    misnamed-requires
+    bad-names-requires
     returns-4
     returns-5)

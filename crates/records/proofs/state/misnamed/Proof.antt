@@ -3,7 +3,7 @@ use Prim.Native.Nat.{_-_, _≤_}
 use Rattle.records.proofs.General.BoolLaws.{or-right}
 use Rattle.records.proofs.General.FiniteLaws.{any-of, any-still, any-zero}
 use Rattle.records.specs.Finite.{any}
-use Rattle.records.specs.Helpers.Scan.{misnamed, misnamedAt}
+use Rattle.records.specs.Helpers.Scan.{slots, misnamed, misnamedAt}
 use borrow.Author.Needs.{needs}
 use borrow.Author.Tests.{le-ltb, lt-ltb}
 use lib.Dec.{ltb}
@@ -25,7 +25,7 @@ sub-if1 c = search needs
 
 returns : tie.Need-returns Inv-loop μ-loop
 unfolding misnamed
-returns c = rw (lt-ltb 4 _ (c .if1 .taken))
+returns c = rw (lt-ltb slots _ (c .if1 .taken))
 
 loop-holds : tie.Need-loop-holds Inv-loop μ-loop
 loop-holds c = (omega arith, refl, any-zero _)
@@ -43,7 +43,7 @@ returns-2 : tie.Need-returns-2 Inv-loop μ-loop
 unfolding misnamed
 returns-2 c =
     let at = c .before .before .before .before .before .before .before .args in
-    sym (or-right (ltb 4 (at .s .constants)) _
+    sym (or-right (ltb slots (at .s .constants)) _
     (any-of (misnamedAt (at .s) (at .counts .now) (at .named .now)) _ _ (rw (c .before .before .before .before .loop .inv .1) at (c .before .before .before .loop-test .taken))
     (rw (← (c .before .repeats .ensures)) (c .if2 .taken))))
 
@@ -64,7 +64,7 @@ returns-3 : tie.Need-returns-3 Inv-loop μ-loop
 unfolding misnamed
 returns-3 c =
     let at = c .before .before .before .before .args in
-    rw (le-ltb 4 (at .s .constants) (c .before .before .if1 .left))
+    rw (le-ltb slots (at .s .constants) (c .before .before .if1 .left))
     (sym (rw (le-antisymm (c .before .loop .inv .0) (c .loop-test .left) ∙ c .before .loop .inv .1) at (c .before .loop .inv .2)))
 
 pub misnamed-spec : {M : Type 1} → statement M

@@ -38,8 +38,12 @@ returns-8 c = rw (c .match .keys8)
 
 returns-9 : tie.Need-returns-9
 unfolding tokenOf
-returns-9 c =
-    simp (ne-eqb (c .before .args .sort) 1 (c .match .rest .0 .0 .0 .0 .0 .0 .0 .1), ne-eqb (c .before .args .sort) 2 (c .match .rest .0 .0 .0 .0 .0 .0 .1), ne-eqb (c .before .args .sort) 3 (c .match .rest .0 .0 .0 .0 .0 .1), ne-eqb (c .before .args .sort) 4 (c .match .rest .0 .0 .0 .0 .1), ne-eqb (c .before .args .sort) 5 (c .match .rest .0 .0 .0 .1), ne-eqb (c .before .args .sort) 6 (c .match .rest .0 .0 .1), ne-eqb (c .before .args .sort) 7 (c .match .rest .0 .1), ne-eqb (c .before .args .sort) 8 (c .match .rest .1))
+returns-9 c = rw (c .match .keys9)
+
+returns-10 : tie.Need-returns-10
+unfolding tokenOf
+returns-10 c =
+    simp (ne-eqb (c .before .args .sort) 1 (c .match .rest .0 .0 .0 .0 .0 .0 .0 .0 .1), ne-eqb (c .before .args .sort) 2 (c .match .rest .0 .0 .0 .0 .0 .0 .0 .1), ne-eqb (c .before .args .sort) 3 (c .match .rest .0 .0 .0 .0 .0 .0 .1), ne-eqb (c .before .args .sort) 4 (c .match .rest .0 .0 .0 .0 .0 .1), ne-eqb (c .before .args .sort) 5 (c .match .rest .0 .0 .0 .0 .1), ne-eqb (c .before .args .sort) 6 (c .match .rest .0 .0 .0 .1), ne-eqb (c .before .args .sort) 7 (c .match .rest .0 .0 .1), ne-eqb (c .before .args .sort) 8 (c .match .rest .0 .1), ne-eqb (c .before .args .sort) 9 (c .match .rest .1))
 
 pub token-of-spec : {M : Type 1} → statement M
 token-of-spec =
@@ -53,4 +57,5 @@ token-of-spec =
     returns-6
     returns-7
     returns-8
-    returns-9)
+    returns-9
+    returns-10)

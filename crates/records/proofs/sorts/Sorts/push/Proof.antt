@@ -61,6 +61,12 @@ enum-told-9 c = search needs
 join-requires-4 : tie.Need-join-requires-4
 join-requires-4 c κs = search needs
 
+enum-told-10 : tie.Need-enum-told-10
+enum-told-10 c = search needs
+
+put-requires-5 : tie.Need-put-requires-5
+put-requires-5 c κs = search needs
+
 returns-2 : tie.Need-returns-2
 returns-2 c =
     rw (not-false (c .before .before .before .before .before .args .self .ok) (c .before .before .before .if1 .left), c .before .enum-told .given .1)
@@ -106,6 +112,11 @@ returns-10 c =
     rw (not-false (c .before .before .before .before .before .args .self .ok) (c .before .before .before .if1 .left), c .before .enum-told9 .given .1)
     (c .join4 .ensures)
 
+returns-11 : tie.Need-returns-11
+returns-11 c =
+    rw (not-false (c .before .before .before .before .before .args .self .ok) (c .before .before .before .if1 .left), c .before .enum-told10 .given .1)
+    (c .put5 .ensures)
+
 pub push-spec : {M : Type 1} → statement M
 push-spec =
     tie.close
@@ -129,6 +140,8 @@ push-spec =
     reach-requires
     enum-told-9
     join-requires-4
+    enum-told-10
+    put-requires-5
     returns-2
     returns-3
     returns-4
@@ -137,4 +150,5 @@ push-spec =
     returns-7
     returns-8
     returns-9
-    returns-10)
+    returns-10
+    returns-11)
