@@ -4,6 +4,7 @@ pub mod ExecutableLaws
 pub mod NamesLaws
 pub mod TwoConstants
 pub mod SubsumptionLaws
+pub mod ChoiceLaws
 pub mod EncodingLaws
 pub mod LooseLaws
 pub mod RefusalLaws

@@ -6,6 +6,7 @@ pub mod Schema
 pub mod Concept
 pub mod Semantics
 pub mod Subsumption
+pub mod Choice
 -- Records.
 pub mod Layout
 pub mod SchemaRecord
