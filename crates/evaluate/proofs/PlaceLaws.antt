@@ -6,11 +6,11 @@ use mathlib.Core.List.{List}
 use mathlib.Core.Path.{_≡_, refl, sym, ap, subst, _∙_}
 use native.Mathlib.Omega.{arith}
 use lib.ListN.{length}
-use Rattle.records.specs.declared.token.Token.the-variants.{Class, Everything, Constant, Both, Reached, Common}
+use Rattle.records.specs.declared.token.Token.the-variants.{Class, Everything, Constant, Both, Reached, Common, Mark}
 use Rattle.records.specs.declared.schema.Signature.{Signature}
 use Rattle.records.specs.State.{State}
 use Rattle.records.specs.Concept.{directionOf, Concept, reached, common}
-use Rattle.records.specs.Layout.{conceptLayout, stateLayout, entries, objectPart, constantKinds, maxTokens, maxFacts}
+use Rattle.records.specs.Layout.{conceptLayout, stateLayout, entries, objectPart, constantKinds, markKinds, maxTokens, maxFacts}
 use Rattle.records.specs.ConceptRecord.{tokenAt, conceptOf}
 use Rattle.records.specs.StateRecord.{objects, stateOf}
 use Rattle.records.specs.ConceptRefusal.{isStep, stepAt}
@@ -28,9 +28,9 @@ use Rattle.evaluate.specs.Rows.{SharedRow, KindSet, Put, Below}
 use Rattle.evaluate.specs.Relation.{Met}
 use Rattle.evaluate.specs.Places.{Place, Landed, ConceptAt, PathAt, Walk}
 use Rattle.evaluate.proofs.FactLaws.{objects-room}
-use Rattle.evaluate.proofs.TokenLaws.{constant-declared, step-along}
+use Rattle.evaluate.proofs.TokenLaws.{constant-declared, mark-allowed, step-along}
 use Rattle.evaluate.proofs.StepLaws.{size-of}
-use Rattle.evaluate.proofs.SelectionLaws.{class-selection, constant-selection, everything-selection, both-selection}
+use Rattle.evaluate.proofs.SelectionLaws.{class-selection, constant-selection, mark-selection, everything-selection, both-selection}
 use Rattle.evaluate.proofs.LandLaws.{lands-join, lands-token, lands-one, lands-put}
 use Rattle.evaluate.proofs.WalkLaws.{empty-reads}
 
@@ -110,6 +110,18 @@ module _ {w v ls rs : List ℕ} {at : ℕ} (z : Place w v ls rs (suc at)) where
         selection =
             selection-as (t .0)
             (constant-selection (z .evaluable) (constant-declared (z .evaluable) at (omega (arith, z .within)) is) h);
+        landings = lands-one (t .1) (ap isStep is);
+        size = refl;
+      }
+
+  pub mark-selected : {k : ℕ} {set : List ℕ} → tokenAt w at ≡ Mark k → Reads w at (Mark k) → KindSet v (markKinds + k) set
+      → ConceptAt w v (suc at) ls ls rs rs (record { start = at; set = set })
+  mark-selected is t h =
+      record {
+        start = sym (t .1);
+        selection =
+            selection-as (t .0)
+            (mark-selection (z .evaluable) (mark-allowed (z .evaluable) at (omega (arith, z .within)) is) h);
         landings = lands-one (t .1) (ap isStep is);
         size = refl;
       }

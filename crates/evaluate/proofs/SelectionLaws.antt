@@ -1,19 +1,20 @@
 -- What the helpers on sets promise is the selection of the concept that a token makes of its operands.
 use Prim.Native.Nat.{ℕ, _+_, _<_}
-use mathlib.Core.Bool.{Bool, true, false, _&&_, and-true}
+use mathlib.Core.Bool.{Bool, true, false, So, _&&_, and-true}
 use mathlib.Core.List.{List}
 use mathlib.Core.Path.{_≡_, refl, sym, _∙_}
 use lib.Dec.{ltb}
 use Rattle.records.specs.declared.schema.Signature.{Signature}
 use Rattle.records.specs.State.{State}
-use Rattle.records.specs.Concept.{Concept, class, everything, constant, both}
-use Rattle.records.specs.Layout.{constantKinds}
+use Rattle.records.specs.Concept.{Concept, class, everything, constant, both, mark}
+use Rattle.records.specs.Layout.{constantKinds, markKinds}
 use Rattle.records.specs.StateRecord.{stateOf}
+use Rattle.records.specs.Marks.{allows}
 use Rattle.evaluate.specs.Selection.{Selection}
 use Rattle.evaluate.specs.Evaluable.{Evaluable}
 use Rattle.evaluate.specs.Rows.{SharedRow, KindSet, Below}
 use Rattle.evaluate.proofs.RowLaws.{row-zero}
-use Rattle.evaluate.proofs.FactLaws.{says-inside, says-constant}
+use Rattle.evaluate.proofs.FactLaws.{says-inside, says-constant, says-mark}
 
 -- What the facts of a kind name.
 
@@ -26,6 +27,10 @@ module _ {s : Signature} {w v : List ℕ} (ok : Evaluable s w v) where
   unfolding stateOf
   constant-selection {a} m h =
       record { size = h .size; bits = λ d l. h .bits d l ∙ says-constant ok a d m }
+
+  pub mark-selection : {k : ℕ} {vs : List ℕ} → So (allows s k) → KindSet v (markKinds + k) vs → Selection (stateOf v) (mark k) vs
+  unfolding stateOf
+  mark-selection {k} m h = record { size = h .size; bits = λ d l. h .bits d l ∙ says-mark ok k d m }
 
 -- What sets share.
 

@@ -1,6 +1,6 @@
 -- A path whose landings are known, walked step by step: what its last token says, and what is left before it.
 use Prim.Native.Nat.{ℕ, suc, _+_, _-_, _*_, _^_, _≤_, _<_}
-use mathlib.Core.Bool.{Bool, true, false, So, true≢false}
+use mathlib.Core.Bool.{Bool, false, So, true≢false}
 use mathlib.Core.List.{List}
 use mathlib.Core.Path.{_≡_, refl, sym, subst, _∙_}
 use native.Mathlib.Omega.{arith}
@@ -8,7 +8,7 @@ use lib.ListN.{length, getD}
 use mir.Syntax.{w16}
 use mir.Val.{Fits}
 use Rattle.records.specs.declared.token.Token.{Token}
-use Rattle.records.specs.declared.token.Token.the-variants.{Class, Everything, Constant, Both, Empty, Forward, Backward, Reached, Common}
+use Rattle.records.specs.declared.token.Token.the-variants.{Class, Everything, Constant, Both, Empty, Forward, Backward, Reached, Common, Mark}
 use Rattle.records.specs.Concept.{directionOf, reached, Path, empty}
 use Rattle.records.specs.Layout.{entries, stateLayout, objectPart, maxTokens, maxObjects}
 use Rattle.records.specs.ConceptRecord.{tokenAt}
@@ -50,6 +50,7 @@ step-kind (Forward P) h = omega arith
 step-kind (Backward P) h = omega arith
 step-kind Reached h = omega arith
 step-kind Common h = omega arith
+step-kind (Mark k) h = omega arith
 
 -- a path whose last token is no step is empty
 pub empty-reads : (w : List ℕ) (at : ℕ) → HasPath w (suc at) → stepAt w at ≡ false → (pathAt w (suc at) ≡ empty) × (startOf w (suc at) 1 ≡ at)
@@ -65,6 +66,7 @@ empty-reads w at path h = go (tokenAt w at) h (path-reads w at (tokenAt w at) pa
     go (Backward P) k r = absurd (true≢false k)
     go Reached k r = absurd r
     go Common k r = absurd r
+    go (Mark j) k r = absurd r
 
 module _ {w v landings : List ℕ} {e : ℕ} (z : Walk w v landings e) where
   pub walk-few : e ≤ maxTokens

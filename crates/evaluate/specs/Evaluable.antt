@@ -5,7 +5,7 @@ use mathlib.Core.List.{List}
 use mathlib.Core.Path.{_≡_}
 use lib.ListN.{length}
 use Rattle.records.specs.declared.token.Token.{Token}
-use Rattle.records.specs.declared.token.Token.the-variants.{Class, Everything, Constant, Both, Empty, Forward, Backward, Reached, Common}
+use Rattle.records.specs.declared.token.Token.the-variants.{Class, Everything, Constant, Both, Empty, Forward, Backward, Reached, Common, Mark}
 use Rattle.records.specs.declared.schema.Signature.{Signature}
 use Rattle.records.specs.Finite.{any}
 use Rattle.records.specs.Layout.{conceptLayout, entries}
@@ -32,6 +32,7 @@ isCommon (Forward P) = false
 isCommon (Backward P) = false
 isCommon Reached = false
 isCommon Common = true
+isCommon (Mark k) = false
 
 abbrev pub commonAt : List ℕ → ℕ → Bool
 commonAt w i = isCommon (tokenAt w i)

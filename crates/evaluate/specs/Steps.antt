@@ -6,7 +6,7 @@ use mathlib.Core.Path.{_≡_}
 use lib.Dec.{eqb}
 use lib.ListN.{length, getD}
 use Rattle.records.specs.declared.token.Token.{Token}
-use Rattle.records.specs.declared.token.Token.the-variants.{Class, Everything, Constant, Both, Empty, Forward, Backward, Reached, Common}
+use Rattle.records.specs.declared.token.Token.the-variants.{Class, Everything, Constant, Both, Empty, Forward, Backward, Reached, Common, Mark}
 use Rattle.records.specs.Finite.{any}
 use Rattle.records.specs.Layout.{objectPart, stateLayout, entries, rightAt, attributeKinds, factKinds, maxObjects, maxFacts}
 use Rattle.records.specs.StateRecord.{objects, kindAt, objectAt}
@@ -32,6 +32,7 @@ stepOf (Forward P) = along false P
 stepOf (Backward P) = along true P
 stepOf Reached = record { kind = factKinds; backward = false }
 stepOf Common = record { kind = factKinds; backward = false }
+stepOf (Mark k) = record { kind = factKinds; backward = false }
 
 -- the first or the second object of the pair that fact i is
 abbrev pub endAt : List ℕ → Bool → ℕ → ℕ

@@ -10,6 +10,7 @@ use crate::sets::kind_set;
 use crate::sets::put;
 use crate::sets::shared_row;
 use records::state::CONSTANT_KINDS;
+use records::state::MARK_KINDS;
 use records::state::objects;
 use records::token::Token;
 use records::token::is_step;
@@ -56,6 +57,10 @@ pub fn concept(
         Token::Both => both(words, state, at, landings, rows),
         Token::Reached => reached(words, state, at, landings, rows),
         Token::Common => common(words, state, at, landings, rows),
+        Token::Mark(k) => Found {
+            start: at,
+            set: kind_set(state, MARK_KINDS + k),
+        },
         // A path's tokens end no concept.
         Token::Empty | Token::Forward(_) | Token::Backward(_) => Found {
             start: at,

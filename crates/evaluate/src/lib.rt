@@ -53,6 +53,7 @@ fn is_common(token: Token) -> bool
         Token::Backward(_) => false,
         Token::Reached => false,
         Token::Common => true,
+        Token::Mark(_) => false,
     }
 }
 

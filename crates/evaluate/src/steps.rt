@@ -38,7 +38,8 @@ pub fn step_at(words: &[u16], at: usize) -> Step
         | Token::Both
         | Token::Empty
         | Token::Reached
-        | Token::Common => Step {
+        | Token::Common
+        | Token::Mark(_) => Step {
             kind: FACT_KINDS,
             backward: false,
         },

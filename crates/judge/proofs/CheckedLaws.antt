@@ -10,7 +10,7 @@ use Rattle.records.specs.declared.schema.Signature.{Signature}
 use Rattle.records.specs.SchemaRecord.{signatureOf}
 use Rattle.records.specs.Outcome.{firstRefusal, outcome}
 use Rattle.records.proofs.AcceptedLaws.{passes-1, signature-few}
-use Rattle.records.proofs.OutcomeLaws.{Passed, first-passed, answered-at, passed-schema, passed-query, passed-state, passed-attribute}
+use Rattle.records.proofs.OutcomeLaws.{Passed, first-passed, answered-at, passed-schema, passed-plain, passed-state, passed-attribute}
 use Rattle.judge.specs.declared.links.LinksAnswer.{LinksAnswer}
 use Rattle.judge.specs.declared.links.LinksAnswer.the-variants.{Refused}
 use Rattle.judge.specs.declared.links.Checked.the-variants as check
@@ -47,7 +47,7 @@ module _ (schema concept state : List ℕ) (P : ℕ) where
         let p = passed .0 in
         rw (passed .1)
         (record {
-          concept-accepted = passed-query schema concept (p .1 .0);
+          concept-accepted = passed-plain schema concept (p .1 .0);
           state-accepted = passed-state schema state (p .1 .1 .0);
           attribute = omega (arith, passed-attribute schema P (p .1 .1 .1 .0), signature-few schema (passes-1 schema (passed-schema schema (p .0))) .1);
         })

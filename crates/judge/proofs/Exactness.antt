@@ -1,5 +1,5 @@
 -- What the entries' answers mean (specs/Exact.antt), for any words: select-exact, legal-exact and counterexample-exact. First of
--- accepted records: legal means Legal, an object that is answered is the lowest Counterexample, and a mark tells Selects.
+-- accepted records: legal means Legal, an object that is answered is the lowest Counterexample, and a flag tells Selects.
 use Prim.Native.Nat.{ℕ, _<_}
 use mathlib.Core.List.{List, []}
 use mathlib.Core.Bool.{Bool, true, false, So, cond, not, _&&_, false≢true}
@@ -10,7 +10,6 @@ use native.Mathlib.Decide.{decLt}
 use native.Mathlib.Nat.{eq-or-lt-of-le}
 use lib.Dec.{eqb, ltb}
 use borrow.Author.Tests.{eq-eqb, eqb-true, ne-eqb, lt-ltb, ltb-true}
-use Rattle.records.specs.Finite.{any}
 use Rattle.records.specs.State.{State, Names}
 use Rattle.records.specs.Schema.{Schema, Legal}
 use Rattle.records.specs.SchemaRecord.{signatureOf, schemaOf}
@@ -20,10 +19,13 @@ use Rattle.records.specs.Semantics.{In}
 use Rattle.records.specs.Subsumption.{Counterexample}
 use Rattle.records.specs.Executable.{isIn, holds, firstBroken}
 use Rattle.records.specs.StateRecord.{objects, stateOf}
+use Rattle.records.specs.Marks.{usedMarks}
+use Rattle.records.specs.Outcome.{choiceSignature}
 use Rattle.records.proofs.General.BoolLaws.{false-of, not-of-false}
 use Rattle.records.proofs.General.FiniteLaws.{least-le, least-passes, least-first, least-is}
 use Rattle.records.proofs.ExecutableLaws.{isIn-iff, holds-iff, first-broken-none, first-broken-at, first-broken-before}
-use Rattle.records.proofs.OutcomeLaws.{first-passed, outcome-refused, outcome-answered, passed-state, passed-lent}
+use Rattle.records.proofs.NamesLaws.{names-allowed}
+use Rattle.records.proofs.OutcomeLaws.{first-passed, outcome-refused, outcome-answered, passed-state, passed-choice, passed-lent}
 use Rattle.judge.specs.Select.{Result, selection, refusedWith, selectRefusals, selectOutcome}
 use Rattle.judge.specs.Counterexample.{separates, lowest, finding, counterexampleRefusals, counterexampleAnswer}
 use Rattle.judge.specs.LegalState.{judgement, legalRefusals, legalAnswer}
@@ -185,19 +187,19 @@ module _ (schema concept state lent : List ℕ) where
   abbrev select-numbers : List ℕ
   select-numbers = selectRefusals schema concept state lent
 
-  abbrev marked : Result
-  marked = selection (stateOf state) (conceptOf concept) lent
+  abbrev flagged : Result
+  flagged = selection (stateOf state) (conceptOf concept) lent
 
   pub select-exact : SelectExact schema concept state lent (selectOutcome schema concept state lent .answer) (selectOutcome schema concept state lent .words)
   unfolding stateOf
   select-exact =
       record {
         refused = λ n.
-            let e = outcome-refused (refusedWith lent) marked select-numbers n in
+            let e = outcome-refused (refusedWith lent) flagged select-numbers n in
             (ap (λ (r : Result). r .answer) e, ap (λ (r : Result). r .words) e);
         answered = λ z.
             subst (λ (r : Result). Selected (stateOf state) (conceptOf concept) lent (r .answer) (r .words))
-            (sym (outcome-answered (refusedWith lent) marked select-numbers z))
+            (sym (outcome-answered (refusedWith lent) flagged select-numbers z))
             (selection-selected (stateOf state) (conceptOf concept) lent (passed-lent (objects state) lent (first-passed select-numbers z .1 .1 .1 .0)));
       }
 
@@ -231,6 +233,7 @@ module _ (schema query view state : List ℕ) where
         answered = λ z.
             subst (Found (schemaOf schema) (conceptOf query) (conceptOf view) (stateOf state)) (sym (outcome-answered Refused found counter-numbers z))
             (finding-found (schemaOf schema) (stateOf state)
-            (accepted-names (signatureOf schema) state (passed-state schema state (first-passed counter-numbers z .1 .1 .1 .0))) (conceptOf query)
-            (conceptOf view));
+            (names-allowed (usedMarks query) (signatureOf schema .marks) (signatureOf schema) (stateOf state)
+            (accepted-names (choiceSignature schema query) state (passed-choice schema query state (first-passed counter-numbers z .1 .1 .1 .0))))
+            (conceptOf query) (conceptOf view));
       }

@@ -2,7 +2,7 @@
 mod EvaluationLaws
 pub mod LegalLaws
 pub mod SelectLaws
-mod MarkLaws
+mod FlagLaws
 pub mod CounterexampleLaws
 mod SelectedLaws
 pub mod Exactness
@@ -12,3 +12,4 @@ pub mod LinkLaws
 mod LinkFacts
 pub mod LinkExactness
 mod LinkExamples
+mod MarkExamples

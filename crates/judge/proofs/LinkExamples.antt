@@ -34,6 +34,7 @@ sheet =
       members = λ A d. eqb d 0 || eqb d 1 || eqb d 3;
       pairs = λ P d e. pair 0 1 d e || pair 0 2 d e || pair 1 2 d e || pair 2 0 d e || pair 2 1 d e;
       names = λ a. 0;
+      marks = λ k. 0;
     }
 
 pub sheet-counts : (linksByFirst sheet (class 0) 0 ≡ 3) × (linksBySecond sheet (class 0) 0 ≡ 3)

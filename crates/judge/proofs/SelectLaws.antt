@@ -14,17 +14,17 @@ use Rattle.records.proofs.General.FiniteLaws.{count-same}
 use Rattle.index.specs.BitSet.{bitAt}
 use Rattle.evaluate.specs.Selection.{Selection}
 use Rattle.judge.specs.declared.select.SelectAnswer.the-variants.{Selected}
-use Rattle.judge.specs.Select.{marks, selection}
+use Rattle.judge.specs.Select.{flags, selection}
 use Rattle.judge.proofs.EvaluationLaws.{selected-bit}
 
-marks-same : (f g : ℕ → Bool) (n : ℕ) → ((i : ℕ) → i < n → f i ≡ g i) → marks f n ≡ marks g n
-unfolding marks
-marks-same f g zero h = refl
-marks-same f g (suc n) h = rw (h n (omega arith), marks-same f g n (λ i l. h i (omega arith)))
+flags-same : (f g : ℕ → Bool) (n : ℕ) → ((i : ℕ) → i < n → f i ≡ g i) → flags f n ≡ flags g n
+unfolding flags
+flags-same f g zero h = refl
+flags-same f g (suc n) h = rw (h n (omega arith), flags-same f g n (λ i l. h i (omega arith)))
 
--- the marks of the set are those of the concept
-pub selection-is : (I : State) (C : Concept) (lent ws : List ℕ) → Selection I C ws → I .size ≤ objectPart → record { answer = Selected (count (I .size) (bitAt ws)); words = marks (bitAt ws) (I .size) ++ drop (I .size) lent } ≡ selection I C lent
+-- the flags of the set are those of the concept
+pub selection-is : (I : State) (C : Concept) (lent ws : List ℕ) → Selection I C ws → I .size ≤ objectPart → record { answer = Selected (count (I .size) (bitAt ws)); words = flags (bitAt ws) (I .size) ++ drop (I .size) lent } ≡ selection I C lent
 unfolding selection
 selection-is I C lent ws z few =
     let same = selected-bit I C ws z few in
-    rw (count-same (bitAt ws) (isIn I C) (I .size) same, marks-same (bitAt ws) (isIn I C) (I .size) same)
+    rw (count-same (bitAt ws) (isIn I C) (I .size) same, flags-same (bitAt ws) (isIn I C) (I .size) same)

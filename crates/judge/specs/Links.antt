@@ -15,7 +15,7 @@ use Rattle.records.specs.ConceptRecord.{conceptOf}
 use Rattle.records.specs.StateRecord.{stateOf}
 use Rattle.records.specs.ConceptRefusal.{AcceptedConcept}
 use Rattle.records.specs.StateRefusal.{AcceptedState}
-use Rattle.records.specs.Outcome.{schemaRefusal, queryRefusal, stateRefusal, attributeRefusal, outcome}
+use Rattle.records.specs.Outcome.{schemaRefusal, plainRefusal, stateRefusal, attributeRefusal, outcome}
 use Rattle.judge.specs.declared.links.LinksAnswer.{LinksAnswer}
 use Rattle.judge.specs.declared.links.LinksAnswer.the-variants.{Counted, Refused}
 use Rattle.judge.specs.declared.links.Checked.{Checked}
@@ -39,7 +39,7 @@ linksBySecond I C P = sum (I .size) λ e. firsts I C P e
 
 abbrev pub linksRefusals : List ℕ → List ℕ → List ℕ → ℕ → List ℕ
 linksRefusals schema concept state P =
-    schemaRefusal schema ∷ queryRefusal schema concept ∷ stateRefusal schema state ∷ attributeRefusal schema P ∷ []
+    schemaRefusal schema ∷ plainRefusal schema concept ∷ stateRefusal schema state ∷ attributeRefusal schema P ∷ []
 
 abbrev pub byFirstAnswer : List ℕ → List ℕ → List ℕ → ℕ → LinksAnswer
 byFirstAnswer schema concept state P =

@@ -12,12 +12,12 @@ use Rattle.records.specs.ConceptRecord.{conceptOf}
 use Rattle.records.specs.StateRecord.{objects, stateOf}
 use Rattle.judge.specs.declared.select.SelectAnswer.{SelectAnswer}
 use Rattle.judge.specs.declared.select.SelectAnswer.the-variants.{Selected, Refused}
-use Rattle.records.specs.Outcome.{schemaRefusal, queryRefusal, stateRefusal, lentRefusal, outcome}
+use Rattle.records.specs.Outcome.{schemaRefusal, plainRefusal, stateRefusal, lentRefusal, outcome}
 
 -- 1 or 0 for each number below n
-unfoldable pub marks : (ℕ → Bool) → ℕ → List ℕ
-marks f zero = []
-marks f (suc n) = marks f n ++ (cond (f n) 1 0 ∷ [])
+unfoldable pub flags : (ℕ → Bool) → ℕ → List ℕ
+flags f zero = []
+flags f (suc n) = flags f n ++ (cond (f n) 1 0 ∷ [])
 
 -- the answer, and the lent words after the call
 pub record Result : Type 0 where
@@ -28,7 +28,7 @@ unfoldable pub selection : State → Concept → List ℕ → Result
 selection I C lent =
     record {
       answer = Selected (count (I .size) (isIn I C));
-      words = marks (isIn I C) (I .size) ++ drop (I .size) lent;
+      words = flags (isIn I C) (I .size) ++ drop (I .size) lent;
     }
 
 -- a refused call alters no word
@@ -37,7 +37,7 @@ refusedWith lent n = record { answer = Refused n; words = lent }
 
 abbrev pub selectRefusals : List ℕ → List ℕ → List ℕ → List ℕ → List ℕ
 selectRefusals schema concept state lent =
-    schemaRefusal schema ∷ queryRefusal schema concept ∷ stateRefusal schema state ∷ lentRefusal (objects state) lent ∷ []
+    schemaRefusal schema ∷ plainRefusal schema concept ∷ stateRefusal schema state ∷ lentRefusal (objects state) lent ∷ []
 
 abbrev pub selectOutcome : List ℕ → List ℕ → List ℕ → List ℕ → Result
 selectOutcome schema concept state lent =

@@ -3,6 +3,8 @@ use evaluate::layout::SET_WORDS;
 use records::concept::ConceptAnswer;
 use records::concept::check_query;
 use records::concept::check_view;
+use records::marks::allow;
+use records::marks::used;
 use records::schema::SchemaAnswer;
 use records::schema::Signature;
 use records::schema::axioms;
@@ -84,9 +86,11 @@ pub fn counterexample(
     let ConceptAnswer::Accepted(_) = stored else {
         return CounterexampleAnswer::Refused(stored.number());
     };
-    let judged = check_state(s, state);
+    // The state gives an object to each mark that the query uses, and to no other.
+    let chosen = allow(s, used(query));
+    let judged = check_state(chosen, state);
     let StateAnswer::Accepted = judged else {
         return CounterexampleAnswer::Refused(judged.number());
     };
-    find(s, schema, query, view, state)
+    find(chosen, schema, query, view, state)
 }

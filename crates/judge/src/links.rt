@@ -4,7 +4,7 @@ use crate::tally::count_links;
 use crate::tally::tally;
 use crate::tally::total;
 use records::concept::ConceptAnswer;
-use records::concept::check_query;
+use records::concept::check_plain;
 use records::layout::wide;
 use records::schema::SchemaAnswer;
 use records::schema::Signature;
@@ -53,7 +53,7 @@ fn check(schema: &[u16], concept: &[u16], state: &[u16], attribute: usize) -> Ch
     let SchemaAnswer::Accepted(s) = declared else {
         return Checked::Refused(declared.number());
     };
-    let read = check_query(s, concept);
+    let read = check_plain(s, concept);
     let ConceptAnswer::Accepted(_) = read else {
         return Checked::Refused(read.number());
     };

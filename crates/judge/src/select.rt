@@ -1,7 +1,7 @@
 // Select: which objects of a state are in a concept, as words that the caller lends.
 use evaluate::layout::SET_WORDS;
 use records::concept::ConceptAnswer;
-use records::concept::check_query;
+use records::concept::check_plain;
 use records::schema::SchemaAnswer;
 use records::schema::check_schema;
 use records::state::StateAnswer;
@@ -13,7 +13,7 @@ ghost use Prim.Native.Nat.{_≤_};
 ghost use lib.ListN.{length, drop};
 ghost use Rattle.records.specs.Finite.{count};
 ghost use Rattle.index.specs.BitSet.{bitAt};
-ghost use Rattle.judge.specs.Select.{marks, selectOutcome};
+ghost use Rattle.judge.specs.Select.{flags, selectOutcome};
 
 pub enum SelectAnswer {
     // How many objects are selected.
@@ -23,10 +23,10 @@ pub enum SelectAnswer {
 }
 
 // Writes 1 or 0 for each of the first `n` numbers, by whether the set has it, and counts the ones.
-fn mark(set: &[u64; SET_WORDS], n: usize, lent: &mut [u16]) -> usize
+fn flag(set: &[u64; SET_WORDS], n: usize, lent: &mut [u16]) -> usize
     requires { ⌜ n ≤ length (now lent) ⌝ }
     ensures count { λ r. ⌜ r ≡ count n (bitAt (now (set .entry))) ⌝ }
-    ensures words { λ r. ⌜ now (lent .exit) ≡ marks (bitAt (now (set .entry))) n ++ drop n (now (lent .entry)) ⌝ }
+    ensures words { λ r. ⌜ now (lent .exit) ≡ flags (bitAt (now (set .entry))) n ++ drop n (now (lent .entry)) ⌝ }
 {
     let mut found = 0;
     for i in 0..n {
@@ -44,7 +44,7 @@ pub fn select(schema: &[u16], concept: &[u16], state: &[u16], lent: &mut [u16]) 
     let SchemaAnswer::Accepted(s) = checked else {
         return SelectAnswer::Refused(checked.number());
     };
-    let read = check_query(s, concept);
+    let read = check_plain(s, concept);
     let ConceptAnswer::Accepted(_) = read else {
         return SelectAnswer::Refused(read.number());
     };
@@ -57,5 +57,5 @@ pub fn select(schema: &[u16], concept: &[u16], state: &[u16], lent: &mut [u16]) 
         return SelectAnswer::Refused(11);
     }
     let set = evaluate::evaluate(s, concept, state);
-    SelectAnswer::Selected(mark(&set, n, lent))
+    SelectAnswer::Selected(flag(&set, n, lent))
 }

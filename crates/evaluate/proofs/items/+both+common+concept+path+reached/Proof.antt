@@ -1,7 +1,7 @@
 -- The span of tokens falls: an operand ends before its item does, and the measure is twice the place where the item ends.
 -- A token's own function stands between: its measure is one more than that of the operands that end at its place. Each answer
 -- cites what the token makes of its operands (PlaceLaws).
-use Rattle.evaluate.proofs.PlaceLaws.{place-earlier, place-few, place-facts, place-room, place-walk, place-below, class-selected, everything-selected, constant-selected, both-selected, reached-selected, last-walk, common-selected, empty-landed, step-read, step-landed, concept-place, concept-put, path-place, path-put}
+use Rattle.evaluate.proofs.PlaceLaws.{place-earlier, place-few, place-facts, place-room, place-walk, place-below, class-selected, everything-selected, constant-selected, mark-selected, both-selected, reached-selected, last-walk, common-selected, empty-landed, step-read, step-landed, concept-place, concept-put, path-place, path-put}
 use Rattle.evaluate.proofs.TokenLaws.{named-small}
 use Rattle.records.proofs.ReadingLaws.{concept-some, path-some, concept-next, path-next, concept-reads, concept-suc, path-suc, concept-token, concept-not-path}
 use Rattle.records.proofs.PileLaws.{start-le}
@@ -230,6 +230,16 @@ concept-common-requires t c κs =
     let q = sym (c .before .before .before .before .token-at .ensures) ∙ c .before .before .enum-told4 .given .1 in
     (omega (arith, s .pre .0, concept-next (s .args .words .now) _ h), (concept-place (s .pre .1 .0) h, (concept-suc (s .args .words .now) _ h, q)))
 
+concept-enum-known-k : (t : ℕ) → concept-lts.Need-enum-known-k (concept-calls t) (concept-at t) concept.Post
+concept-enum-known-k t c = search needs
+
+concept-add-kind-set-2 : (t : ℕ) → concept-lts.Need-add-kind-set-2 (concept-calls t) (concept-at t) concept.Post
+concept-add-kind-set-2 t c = omega (arith, named-small _ (c .before .before .before .before .before .before .before .shared-slice-known .given) _ (sym (c .before .before .before .token-at .ensures) ∙ c .before .k .given .1))
+
+concept-kind-set-requires-3 : (t : ℕ) → concept-lts.Need-kind-set-requires-3 (concept-calls t) (concept-at t) concept.Post
+concept-kind-set-requires-3 t c κs =
+    let (rise, few) = place-facts (c .before .before .before .before .before .before .before .before .pre .1 .0) in (rise, few, omega (arith, named-small _ (c .before .before .before .before .before .before .before .shared-slice-known .given) _ (sym (c .before .before .before .token-at .ensures) ∙ c .before .k .given .1)))
+
 concept-returns : (t : ℕ) → concept-lts.Need-returns (concept-calls t) (concept-at t) concept.Post
 concept-returns t c =
     let s = c .before .before .before .before .before .before .before .before .before in
@@ -279,7 +289,14 @@ concept-returns-6 : (t : ℕ) → concept-lts.Need-returns-6 (concept-calls t) (
 concept-returns-6 t c = concept-put (c .before .before .before .before .before .before .before .before .before .before .before .before .before .before .pre .1 .0) (c .before .before .before .before .before .before .before .before .before .before .before .before .before .before .pre .1 .1) (c .before .before .before .before .common .ensures)
 
 concept-returns-7 : (t : ℕ) → concept-lts.Need-returns-7 (concept-calls t) (concept-at t) concept.Post
-concept-returns-7 t c = absurd (concept-not-path (c .before .before .before .before .before .before .args .words .now) _ (c .before .before .before .before .before .before .pre .1 .1) (rw (← (c .before .token-at .ensures)) (c .match .keys7)))
+concept-returns-7 t c =
+    let s = c .before .before .before .before .before .before .before .before .before in
+    let h = s .pre .1 .1 in
+    let q = sym (c .before .before .before .before .token-at .ensures) ∙ c .before .before .k .given .1 in
+    concept-put (s .pre .1 .0) h (mark-selected (concept-place (s .pre .1 .0) h) q (concept-token (s .args .words .now) _ h q) (c .kind-set3 .ensures))
+
+concept-returns-8 : (t : ℕ) → concept-lts.Need-returns-8 (concept-calls t) (concept-at t) concept.Post
+concept-returns-8 t c = absurd (concept-not-path (c .before .before .before .before .before .before .args .words .now) _ (c .before .before .before .before .before .before .pre .1 .1) (rw (← (c .before .token-at .ensures)) (c .match .keys8)))
 
 path-sub-at : (t : ℕ) → path-lts.Need-sub-at (path-calls t) (path-at t) path.Post
 path-sub-at t c = path-some (c .before .before .before .before .args .words .now) _ (c .before .before .before .before .pre .1 .1)
@@ -391,6 +408,9 @@ pub +both+common+concept+path+reached-spec : {M : Type 1} → statement M
     (concept-reached-requires t)
     (concept-enum-told-4 t)
     (concept-common-requires t)
+    (concept-enum-known-k t)
+    (concept-add-kind-set-2 t)
+    (concept-kind-set-requires-3 t)
     (concept-returns t)
     (concept-returns-2 t)
     (concept-returns-3 t)
@@ -403,7 +423,8 @@ pub +both+common+concept+path+reached-spec : {M : Type 1} → statement M
     (concept-same-length-5 t)
     (concept-same-length-6 t)
     (concept-returns-6 t)
-    (concept-returns-7 t))
+    (concept-returns-7 t)
+    (concept-returns-8 t))
     (λ t. path-lts.spec (path-calls t)
     (path-at t)
     path.Post

@@ -19,7 +19,6 @@ first-broken-requires c κs =
     let ok = c .before .before .before .before .before .before .pre in
     record {
       schema-accepted = ok .schema-accepted;
-      signature = ok .signature;
       state-accepted = ok .state-accepted;
       index = c .before .index .ensures;
     }

@@ -76,7 +76,6 @@ first-broken-requires c κs =
     let e = c .before .before in
     record {
       schema-accepted = accepted-schema (known e) .1;
-      signature = accepted-schema (known e) .0;
       state-accepted = sym (e .before .before .check-state .ensures) ∙ e .enum-told .given .1;
       index = c .before .index .ensures;
     }

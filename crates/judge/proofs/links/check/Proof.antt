@@ -7,8 +7,8 @@ use Rattle.records.specs.Layout.{querySteps}
 use Rattle.records.specs.SchemaRecord.{signatureOf}
 use Rattle.records.specs.SchemaRefusal.{AcceptedSchema}
 use Rattle.records.specs.ConceptRefusal.{AcceptedConcept}
-use Rattle.records.specs.Outcome.{schemaRefusal, queryRefusal, stateRefusal, attributeRefusal, firstRefusal}
-use Rattle.records.proofs.OutcomeLaws.{Passed, refused-at, refused-among, answered-among, schema-turned, concept-turned, schema-signature, concept-known, schema-passed, query-passed}
+use Rattle.records.specs.Outcome.{schemaRefusal, plainRefusal, stateRefusal, attributeRefusal, firstRefusal}
+use Rattle.records.proofs.OutcomeLaws.{Passed, refused-at, refused-among, answered-among, schema-turned, plain-turned, schema-signature, plain-known, schema-passed, plain-passed}
 use Rattle.judge.specs.declared.links.Checked.the-variants.{Accepted, Refused}
 use Rattle.judge.proofs.links.check.Statement.{statement}
 use Rattle.judge.proofs.links.check.Tie as tie
@@ -32,7 +32,9 @@ accepted-schema c =
 
 -- once the concept is
 accepted-concept : (c : tie.After-enum-told) → AcceptedConcept querySteps (signatureOf (S (c .before .before .before))) (C (c .before .before .before))
-accepted-concept c = rw (accepted-schema (c .before .before .before) .0) at (concept-known _ _ _ (c .before .before .check-query .ensures) (c .enum-told .given .1))
+accepted-concept c =
+    let k = c .before .before .before in
+    plain-known (S k) (C k) (accepted-schema k .0) querySteps (c .before .before .check-plain .ensures) (c .enum-told .given .1)
 
 -- the number of the last two checks
 abbrev known : tie.After-first-refusal → tie.After-known-told
@@ -43,8 +45,8 @@ last-number : (c : tie.After-first-refusal)
 last-number c =
     rw (c .before .before .number3 .ensures, c .before .before .before .check-state .ensures, c .before .attribute-number .ensures, accepted-schema (known c) .0) at (c .first-refusal .ensures)
 
-passed : (c : tie.After-first-refusal) → Passed (schemaRefusal (S (known c)) ∷ queryRefusal (S (known c)) (C (known c)) ∷ [])
-passed c = (schema-passed _ (accepted-schema (known c) .1), (query-passed _ _ (accepted-concept (c .before .before .before .before)), tt))
+passed : (c : tie.After-first-refusal) → Passed (schemaRefusal (S (known c)) ∷ plainRefusal (S (known c)) (C (known c)) ∷ [])
+passed c = (schema-passed _ (accepted-schema (known c) .1), (plain-passed _ _ (accepted-concept (c .before .before .before .before)), tt))
 
 check-schema-requires : tie.Need-check-schema-requires
 check-schema-requires c κs = tt
@@ -60,8 +62,8 @@ returns c =
     refused-at Refused _ [] _ tt
     (schema-turned (c .before .before .before .before .before .before .args .schema .now) (c .number .ensures) (c .before .before .check-schema .ensures) (c .before .match .keys2))
 
-check-query-requires : tie.Need-check-query-requires
-check-query-requires c κs = tt
+check-plain-requires : tie.Need-check-plain-requires
+check-plain-requires c κs = tt
 
 enum-told : tie.Need-enum-told
 enum-told c = search needs
@@ -73,7 +75,7 @@ returns-2 : tie.Need-returns-2
 returns-2 c =
     let k = c .before .before .before in
     refused-at Refused _ (schemaRefusal (S k) ∷ []) _ (schema-passed _ (accepted-schema k .1), tt)
-    (concept-turned (S k) (C k) (accepted-schema k .0) querySteps (c .number2 .ensures) (c .before .before .check-query .ensures) (c .before .match2 .keys2))
+    (plain-turned (S k) (C k) (accepted-schema k .0) querySteps (c .number2 .ensures) (c .before .before .check-plain .ensures) (c .before .match2 .keys2))
 
 check-state-requires : tie.Need-check-state-requires
 check-state-requires c κs = tt
@@ -91,13 +93,13 @@ returns-3 : tie.Need-returns-3
 returns-3 c =
     let k = known (c .before) in
     ap Accepted (accepted-schema k .0)
-    ∙ answered-among Refused _ (schemaRefusal (S k) ∷ queryRefusal (S k) (C k) ∷ []) (stateRefusal (S k) (I k) ∷ attributeRefusal (S k) (P k) ∷ []) (passed (c .before))
+    ∙ answered-among Refused _ (schemaRefusal (S k) ∷ plainRefusal (S k) (C k) ∷ []) (stateRefusal (S k) (I k) ∷ attributeRefusal (S k) (P k) ∷ []) (passed (c .before))
     (sym (last-number (c .before)) ∙ c .if1 .taken)
 
 returns-4 : tie.Need-returns-4
 returns-4 c =
     let k = known (c .before) in
-    refused-among Refused _ (schemaRefusal (S k) ∷ queryRefusal (S k) (C k) ∷ []) (stateRefusal (S k) (I k) ∷ attributeRefusal (S k) (P k) ∷ []) (passed (c .before))
+    refused-among Refused _ (schemaRefusal (S k) ∷ plainRefusal (S k) (C k) ∷ []) (stateRefusal (S k) (I k) ∷ attributeRefusal (S k) (P k) ∷ []) (passed (c .before))
     (last-number (c .before)) (c .if1 .left)
 
 pub check-spec : {M : Type 1} → statement M
@@ -108,7 +110,7 @@ check-spec =
     enum-known-declared
     number-requires
     returns
-    check-query-requires
+    check-plain-requires
     enum-told
     number-requires-2
     returns-2

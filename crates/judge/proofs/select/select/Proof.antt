@@ -12,9 +12,9 @@ use Rattle.records.specs.StateRecord.{objects, stateOf}
 use Rattle.records.specs.SchemaRefusal.{AcceptedSchema}
 use Rattle.records.specs.ConceptRefusal.{AcceptedConcept}
 use Rattle.records.specs.StateRefusal.{AcceptedState}
-use Rattle.records.specs.Outcome.{schemaRefusal, queryRefusal, stateRefusal}
+use Rattle.records.specs.Outcome.{schemaRefusal, plainRefusal, stateRefusal}
 use Rattle.records.proofs.AcceptedLaws.{passes-7, objects-few}
-use Rattle.records.proofs.OutcomeLaws.{refused-at, answered-at, schema-turned, concept-turned, state-turned, lent-turned, schema-signature, concept-known, schema-passed, query-passed, state-passed, lent-passed}
+use Rattle.records.proofs.OutcomeLaws.{refused-at, answered-at, schema-turned, plain-turned, state-turned, lent-turned, schema-signature, plain-known, schema-passed, plain-passed, state-passed, lent-passed}
 use Rattle.judge.specs.Select.{refusedWith, selectRefusals, selectOutcome, selection}
 use Rattle.judge.proofs.EvaluationLaws.{evaluable}
 use Rattle.judge.proofs.SelectLaws.{selection-is}
@@ -40,7 +40,9 @@ accepted-schema c =
 
 -- once the concept is
 accepted-concept : (c : tie.After-enum-told) → AcceptedConcept querySteps (signatureOf (S (c .before .before .before))) (C (c .before .before .before))
-accepted-concept c = rw (accepted-schema (c .before .before .before) .0) at (concept-known _ _ _ (c .before .before .check-query .ensures) (c .enum-told .given .1))
+accepted-concept c =
+    let k = c .before .before .before in
+    plain-known (S k) (C k) (accepted-schema k .0) querySteps (c .before .before .check-plain .ensures) (c .enum-told .given .1)
 
 -- once the state is
 abbrev known : tie.After-enum-told2 → tie.After-known-told
@@ -55,7 +57,7 @@ answered : (c : tie.After-enum-told2) → objects (I (known c)) ≤ length (L (k
 answered c h =
     let k = known c in
     answered-at (refusedWith (L k)) _ (selectRefusals (S k) (C k) (I k) (L k))
-    (schema-passed _ (accepted-schema k .1), (query-passed _ _ (accepted-concept (c .before .before .before)), (state-passed _ _ (accepted-state c), (lent-passed _ _ h, tt))))
+    (schema-passed _ (accepted-schema k .1), (plain-passed _ _ (accepted-concept (c .before .before .before)), (state-passed _ _ (accepted-state c), (lent-passed _ _ h, tt))))
 
 check-schema-requires : tie.Need-check-schema-requires
 check-schema-requires c κs = tt
@@ -71,8 +73,8 @@ returns c =
     refused-at (refusedWith (c .before .before .before .before .before .before .before .args .lent .now)) _ [] _ tt
     (schema-turned (c .before .before .before .before .before .before .before .args .schema .now) (c .number .ensures) (c .before .before .check-schema .ensures) (c .before .match .keys2))
 
-check-query-requires : tie.Need-check-query-requires
-check-query-requires c κs = tt
+check-plain-requires : tie.Need-check-plain-requires
+check-plain-requires c κs = tt
 
 enum-told : tie.Need-enum-told
 enum-told c = search needs
@@ -84,7 +86,7 @@ returns-2 : tie.Need-returns-2
 returns-2 c =
     let k = c .before .before .before in
     refused-at (refusedWith (L k)) _ (schemaRefusal (S k) ∷ []) _ (schema-passed _ (accepted-schema k .1), tt)
-    (concept-turned (S k) (C k) (accepted-schema k .0) querySteps (c .number2 .ensures) (c .before .before .check-query .ensures) (c .before .match2 .keys2))
+    (plain-turned (S k) (C k) (accepted-schema k .0) querySteps (c .number2 .ensures) (c .before .before .check-plain .ensures) (c .before .match2 .keys2))
 
 check-state-requires : tie.Need-check-state-requires
 check-state-requires c κs = tt
@@ -98,8 +100,8 @@ number-requires-3 c κs = tt
 returns-3 : tie.Need-returns-3
 returns-3 c =
     let k = c .before .before .before .before .before .before in
-    refused-at (refusedWith (L k)) _ (schemaRefusal (S k) ∷ queryRefusal (S k) (C k) ∷ []) _
-    (schema-passed _ (accepted-schema k .1), (query-passed _ _ (accepted-concept (c .before .before .before)), tt))
+    refused-at (refusedWith (L k)) _ (schemaRefusal (S k) ∷ plainRefusal (S k) (C k) ∷ []) _
+    (schema-passed _ (accepted-schema k .1), (plain-passed _ _ (accepted-concept (c .before .before .before)), tt))
     (state-turned (S k) (I k) (accepted-schema k .0) (c .number3 .ensures) (c .before .before .check-state .ensures) (c .before .match3 .keys2))
 
 objects-requires : tie.Need-objects-requires
@@ -109,18 +111,17 @@ returns-4 : tie.Need-returns-4
 returns-4 c =
     let e = c .before .before in
     let k = known e in
-    refused-at (refusedWith (L k)) _ (schemaRefusal (S k) ∷ queryRefusal (S k) (C k) ∷ stateRefusal (S k) (I k) ∷ []) _
-    (schema-passed _ (accepted-schema k .1), (query-passed _ _ (accepted-concept (e .before .before .before)), (state-passed _ _ (accepted-state e), tt)))
+    refused-at (refusedWith (L k)) _ (schemaRefusal (S k) ∷ plainRefusal (S k) (C k) ∷ stateRefusal (S k) (I k) ∷ []) _
+    (schema-passed _ (accepted-schema k .1), (plain-passed _ _ (accepted-concept (e .before .before .before)), (state-passed _ _ (accepted-state e), tt)))
     (lent-turned (objects (I k)) (L k) (omega (arith, c .if1 .taken, c .before .objects .ensures .value)))
 
 evaluate-requires : tie.Need-evaluate-requires
 evaluate-requires c κs =
     let e = c .before .before in
-    let read : AcceptedConcept querySteps (known e .before .checked .given .0 .0) (C (known e)) = concept-known _ _ _ (e .before .before .before .before .before .check-query .ensures) (e .before .before .before .enum-told .given .1) in
-    evaluable querySteps read (sym (e .before .before .check-state .ensures) ∙ e .enum-told2 .given .1)
+    rw (accepted-schema (known e) .0) (evaluable querySteps (accepted-concept (e .before .before .before)) (accepted-state e))
 
-mark-requires : tie.Need-mark-requires
-mark-requires c κs = omega (arith, c .before .before .before .if1 .left)
+flag-requires : tie.Need-flag-requires
+flag-requires c κs = omega (arith, c .before .before .before .if1 .left)
 
 same-length : tie.Need-same-length
 same-length c = search needs
@@ -131,7 +132,7 @@ returns-5 c =
     let e = c .before .before .before .before .before .before .before .before in
     let k = known e in
     let n = c .before .before .before .before .before .before .before .objects .ensures .value in
-    rw (c .before .before .mark .ensures .0, c .before .before .mark .ensures .1, n)
+    rw (c .before .before .flag .ensures .0, c .before .before .flag .ensures .1, n)
     (selection-is (stateOf (I k)) (conceptOf (C k)) (L k) (c .before .before .before .before .before .evaluate .result) (c .before .before .before .before .before .evaluate .ensures)
     (omega (arith, objects-few (I k) (passes-7 _ _ (accepted-state e))))
     ∙ answered e (omega (arith, n, c .before .before .before .before .before .before .if1 .left)))
@@ -144,7 +145,7 @@ select-spec =
     enum-known-checked
     number-requires
     returns
-    check-query-requires
+    check-plain-requires
     enum-told
     number-requires-2
     returns-2
@@ -155,6 +156,6 @@ select-spec =
     objects-requires
     returns-4
     evaluate-requires
-    mark-requires
+    flag-requires
     same-length
     returns-5)

@@ -1,7 +1,7 @@
--- What stands before the present place is marked and counted.
+-- What stands before the present place is flagged and counted.
 use Prim.Native.Nat.{_-_, _≤_}
-use Rattle.judge.proofs.MarkLaws.{marks-more, marks-none}
-use Rattle.judge.specs.Select.{marks}
+use Rattle.judge.proofs.FlagLaws.{flags-more, flags-none}
+use Rattle.judge.specs.Select.{flags}
 use borrow.Author.Needs.{needs}
 use lib.ListN.{drop, length, length-set}
 use mathlib.Core.Path.{_≡_, refl}
@@ -12,19 +12,19 @@ use Rattle.records.specs.Finite.{count}
 use Rattle.records.proofs.General.FiniteLaws.{count-le, count-turn}
 use Rattle.records.proofs.General.BoolLaws.{byte-small}
 use Rattle.index.specs.BitSet.{bitAt}
-use Rattle.judge.proofs.select.mark.Statement.{statement}
-use Rattle.judge.proofs.select.mark.Tie as tie
+use Rattle.judge.proofs.select.flag.Statement.{statement}
+use Rattle.judge.proofs.select.flag.Tie as tie
 
 abbrev Inv-loop : tie.InvT-loop
 Inv-loop set n lent₀ found₀ i₀ lent found i =
-    (i ≤ n) × (length lent ≡ length lent₀) × (found ≡ count i (bitAt set)) × (lent ≡ marks (bitAt set) i ++ drop i lent₀)
+    (i ≤ n) × (length lent ≡ length lent₀) × (found ≡ count i (bitAt set)) × (lent ≡ flags (bitAt set) i ++ drop i lent₀)
 
 abbrev μ-loop : tie.MeasureT-loop
 μ-loop set n lent₀ found₀ i₀ lent found i = n - i
 
 loop-holds : tie.Need-loop-holds Inv-loop μ-loop
 unfolding count
-loop-holds c = (omega arith, refl, refl, marks-none _ _)
+loop-holds c = (omega arith, refl, refl, flags-none _ _)
 
 has-requires : tie.Need-has-requires Inv-loop μ-loop
 has-requires c κs = tt
@@ -55,7 +55,7 @@ loop-again c = (
   omega arith,
   simp length-set (c .before .before .before .loop .inv .1),
   count-turn (bitAt (c .before .before .before .before .before .args .set .now)) (c .before .before .before .loop .i) _ (c .has .result) (c .before .before .before .loop .inv .2) (c .has .ensures),
-  marks-more (bitAt (c .before .before .before .before .before .args .set .now)) _ _ (c .before .before .before .loop .i) (c .before .before .before .loop .inv .3) (omega (arith, c .before .before .before .before .before .pre)) (c .has .result) (c .has .ensures),
+  flags-more (bitAt (c .before .before .before .before .before .args .set .now)) _ _ (c .before .before .before .loop .i) (c .before .before .before .loop .inv .3) (omega (arith, c .before .before .before .before .before .pre)) (c .has .result) (c .has .ensures),
 )
 
 same-length : tie.Need-same-length Inv-loop μ-loop
@@ -66,8 +66,8 @@ returns c =
     let e : c .before .loop .i ≡ c .before .before .before .args .n = le-antisymm (c .before .loop .inv .0) (c .loop-test .left) in
     (rw e at (c .before .loop .inv .2), rw e at (c .before .loop .inv .3))
 
-pub mark-spec : {M : Type 1} → statement M
-mark-spec =
+pub flag-spec : {M : Type 1} → statement M
+flag-spec =
     tie.close
     (tie.spec
     Inv-loop
