@@ -1,5 +1,5 @@
 -- What the model answers. The candidate is a finished chase (finished), so its start decides: a clash means held, and so does
--- a start in the view; otherwise the candidate is a counterexample. The candidate is small (is-small).
+-- a start in the view, which has no marks; otherwise the candidate is a counterexample. The candidate is small (is-small).
 use Prim.Native.Nat.{ℕ, zero, suc, _≤_, _<_}
 use native.Mathlib.Omega.{arith}
 use native.Mathlib.Decide.{decLt}
@@ -18,9 +18,11 @@ use Rattle.records.proofs.General.FiniteLaws.{any-none, count-le, any-found}
 use Rattle.records.specs.Schema.{Schema, Legal}
 use Rattle.records.specs.Semantics.{In, Selects}
 use Rattle.records.specs.Subsumption.{Counterexample, Held}
+use Rattle.records.specs.Choice.{Unmarked}
 use Rattle.records.specs.Helpers.Steps.{conceptSteps}
 use Rattle.chase.specs.ClassSet.{has}
-use Rattle.chase.specs.Task.{Task, WellFormed, nodes, startNode, constantNode, asked}
+use Rattle.chase.specs.Facts.{Side, atNode, ofMark}
+use Rattle.chase.specs.Task.{Task, WellFormed, signature, nodes, startNode, constantNode, markNode, asked, sideNode, tie, ties}
 use Rattle.chase.specs.Primary.{Prime, repOf, setOf, primary, clash}
 use Rattle.chase.specs.Ground.{Ground, live, objectOf, renumber, groundOf, ground}
 use Rattle.chase.specs.Forest.{Forest, bare, size, classesOf, lacks}
@@ -28,7 +30,7 @@ use Rattle.chase.specs.Closing.{closed}
 use Rattle.chase.specs.Candidate.{links, lacking, objects, chased, candidateOf, forest, candidate, first}
 use Rattle.records.proofs.General.AllLaws.{all-map, all-zip, all-unmapped}
 use Rattle.chase.proofs.ClosureLaws.{needs-sound, image-sound}
-use Rattle.chase.proofs.FactsLaws.{Meets, Assigns, meets-in}
+use Rattle.chase.proofs.FactsLaws.{sideObject, Meets, Assigns, meets-in}
 use Rattle.chase.proofs.ClosingLaws.{pair-kept}
 use Rattle.chase.proofs.Consequence.{Follows, fitting}
 use Rattle.chase.proofs.Extension.{Made}
@@ -125,7 +127,7 @@ module _ (t : Task) (formed : WellFormed t) (x : Prime) (ok : Ok t x) (closed : 
   unfolding objectOf repOf count
   object-beyond n h = ap (λ (r : ℕ). count r (live x)) (List·getD-eq-default (x .reps) 0 (omega (arith, ok .reps)))
 
-  assigns : Assigns (t .schema .signature) (suc (conceptSteps (t .query))) K (objectOf x)
+  assigns : Assigns (signature t) (suc (conceptSteps (t .query))) K (objectOf x)
   unfolding groundOf
   assigns =
       record {
@@ -145,15 +147,22 @@ module _ (t : Task) (formed : WellFormed t) (x : Prime) (ok : Ok t x) (closed : 
   object-classes : (n : ℕ) → n < nodes t → classesOf (t .schema) (groundOf t x) T (objectOf x n) ≡ setOf x n
   object-classes n h = ground-classes (t .schema) (groundOf t x) T (objectOf x n) (object-inside t x ok n h) ∙ object-set t x ok n h
 
-  meets : Meets K (objectOf x) (asked t)
+  side-object : (m : Side) → sideObject K (objectOf x) m ≡ objectOf x (sideNode (markNode t) m)
   unfolding groundOf
+  side-object (atNode n) = refl
+  side-object (ofMark k) = refl
+
+  meets : Meets K (objectOf x) (asked t)
+  unfolding groundOf ties
   meets =
       let G = groundOf t x in
       record {
         members =
             all-zip (λ f w h. subst (λ (c : ℕ). So (has c (f .class))) (sym (object-classes (f .node) (w .1))) h) (asked t .members)
             (within t formed .members) (closed .members);
-        equations = all-map (λ f. rep-object t x ok (f .left) (f .right)) (asked t .equations) (closed .equations);
+        equations =
+            all-map (λ f h. rep-object t x ok (f .left) (sideNode (markNode t) (f .right)) h ∙ sym (side-object (f .right)))
+            (asked t .equations) (all-unmapped _ (tie (markNode t)) (asked t .equations) (closed .ties));
         edges =
             all-map
             (λ f h.
@@ -165,7 +174,7 @@ module _ (t : Task) (formed : WellFormed t) (x : Prime) (ok : Ok t x) (closed : 
 
   embeds : In K (t .query) (groundOf t x .start)
   unfolding groundOf asked
-  embeds = meets-in (t .schema .signature) (suc (conceptSteps (t .query))) K (objectOf x) assigns (t .query) (startNode t) zero
+  embeds = meets-in (signature t) (suc (conceptSteps (t .query))) K (objectOf x) assigns (t .query) (startNode t) zero
       (formed .query) meets
 
 -- the representative of each constant's node
@@ -214,12 +223,12 @@ module _ (t : Task) (formed : WellFormed t) where
       (repeats-none (t .schema .signature) (repAt t) (I .names) (k .0) (λ b l e. named b (omega (arith, k .1)) ∙ ap g e ∙ sym (named (k .0) (k .1)))
       (legal .names .apart (k .0) (k .1))))
 
-  pub says-held : In (candidate t) (t .view) (first t) → Held (t .schema) (t .query) (t .view)
-  says-held x = go (clash t) refl
+  pub says-held : Unmarked (t .view) → In (candidate t) (t .view) (first t) → Held (t .schema) (t .query) (t .view)
+  says-held plain x = go (clash t) refl
     where
       go : (b : Bool) → clash t ≡ b → Held (t .schema) (t .query) (t .view)
       go true c = clash-held c
-      go false n = held t _ _ _ _ _ _ (finished n) formed x
+      go false n = held t _ _ _ _ _ _ (finished n) formed plain x
 
   pub candidate-legal : clash t ≡ false → Legal (t .schema) (candidate t)
   candidate-legal n = opened t _ _ _ _ _ _ (finished n) .0

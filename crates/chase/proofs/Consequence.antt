@@ -10,7 +10,7 @@ use Rattle.records.specs.State.{State}
 use Rattle.records.specs.Schema.{Legal}
 use Rattle.records.specs.Semantics.{In}
 use Rattle.records.specs.Helpers.Steps.{conceptSteps}
-use Rattle.chase.specs.Task.{Task, WellFormed, startNode, asked}
+use Rattle.chase.specs.Task.{Task, WellFormed, signature, startNode, asked}
 use Rattle.records.proofs.General.BoolLaws.{cond-elim}
 use Rattle.chase.proofs.FactsLaws.{Meets, Assigns}
 use Rattle.chase.proofs.Witness.{Chosen, witness}
@@ -18,7 +18,7 @@ use Rattle.chase.proofs.Witness.{Chosen, witness}
 -- in the legal state I, g gives each node an object, as the query asks
 pub record Fits (t : Task) (I : State) (g : ℕ → ℕ) : Type 0 where
   pub legal : Legal (t .schema) I
-  pub assigns : Assigns (t .schema .signature) (suc (conceptSteps (t .query))) I g
+  pub assigns : Assigns (signature t) (suc (conceptSteps (t .query))) I g
   pub meets : Meets I g (asked t)
 
 abbrev pub Follows : Task → (State → (ℕ → ℕ) → Type 0) → Type 0
@@ -65,9 +65,9 @@ fitting t formed I legal d h x =
     at-start : g s ≡ d
     at-start = basis-low (suc s) known d (I .names) s (omega arith)
 
-    w : Chosen (t .schema .signature) (suc s) I g (zero + s) (asked t)
+    w : Chosen (signature t) (suc s) I g (zero + s) (asked t)
     w =
-        witness (t .schema .signature) (suc s) I (t .query) s zero g
+        witness (signature t) (suc s) I (t .query) s zero g
         (record {
           inside = basis-inside (suc s) known d (I .names) (I .size) (legal .names .inside) h;
           constants = basis-constant (suc s) known d (I .names);

@@ -9,7 +9,7 @@ use mathlib.Core.Path.{_≡_, refl, sym, ap, subst, _∙_}
 use mathlib.Core.List.{List, [], _∷_}
 use Rattle.records.specs.State.{State}
 use Rattle.records.specs.Schema.{Schema}
-use Rattle.records.specs.Concept.{Direction, forward, backward, Concept, class, everything, constant, both, reached, common, Path, empty, step}
+use Rattle.records.specs.Concept.{Direction, forward, backward, Concept, class, everything, constant, both, reached, common, mark, Path, empty, step}
 use Rattle.records.specs.Semantics.{Steps, Leads}
 use Rattle.chase.specs.Task.{Task}
 use Rattle.chase.specs.Ground.{Ground}
@@ -97,6 +97,7 @@ module _ (t : Task) (G : Ground) (node : ℕ → ℕ) (T : Forest) (grounded : G
     stands-covered (both C D) l cov v st = (stands-covered C l (λ q h. cov q h .0) v st, stands-covered D l (λ q h. cov q h .1) v st)
     stands-covered (reached p) l cov v st = stands-along p l cov v st
     stands-covered (common p q) l cov v st = (stands-along p l (λ q h. cov q h .0) v st, stands-along q l (λ q h. cov q h .1) v st)
+    stands-covered (mark k) l cov v st = tt
 
     stands-along : (p : Path) (l : ℕ → List ℕ) → ((q : ℕ) → q < G .objects → CovPath S G T p q (l q)) → (v : ℕ) → Stands l v
         → Along (λ d. d < size G T) K p v

@@ -1,6 +1,7 @@
 -- What a finished chase has to be, and what it decides. F is the chase: its objects below m stand for nodes of the query, those
 -- from m below u were made, u is the closing object. The candidate is F closed: it is legal and has its start in the query
--- (opened), and if its start is in the view, then every object that the query selects anywhere is in the view (held).
+-- (opened), and if its start is in the view, which has no marks, then every object that the query selects anywhere is in the view
+-- (held).
 use Prim.Native.Nat.{ℕ, _+_, _-_, _≤_, _<_}
 use native.Mathlib.Omega.{arith}
 use mathlib.Core.Bool.{Bool, So}
@@ -10,6 +11,7 @@ use Rattle.records.specs.State.{State, Member, Related, Names}
 use Rattle.records.specs.Schema.{Legal}
 use Rattle.records.specs.Semantics.{In, Selects}
 use Rattle.records.specs.Subsumption.{Held}
+use Rattle.records.specs.Choice.{Unmarked}
 use Rattle.chase.specs.Closing.{closed}
 use Rattle.chase.specs.Task.{Task, WellFormed, startNode}
 use Rattle.chase.proofs.Reflection.{Hom, Covered, in-kept}
@@ -62,16 +64,16 @@ module _ (t : Task) (F : State) (lack : ℕ → ℕ → Bool) (m u start : ℕ) 
           names = H .names;
         }
 
-    held-at : In (closed F lack u) (t .view) start → In I (t .view) (g (startNode t))
-    held-at x =
+    held-at : Unmarked (t .view) → In (closed F lack u) (t .view) start → In I (t .view) (g (startNode t))
+    held-at plain x =
         let e = extend-all (t .schema) F I (fits .legal) m (λ d. g (node d)) primary-hom (u - m)
         (λ k a b. done .made k a (omega (arith, done .order))) in
         let H = candidate-hom (e .0)
         (hom-part (λ d. d < m + (u - m)) (λ d. d < u) F I (e .0) (λ d h. omega (arith, done .order)) (e .1)) in
         subst (In I (t .view)) (e .2 start (done .begins) ∙ done .root I g fits)
-        (in-kept H (t .view) start (omega (arith, done .begins, done .order)) (done .covers) x)
+        (in-kept H (t .view) start plain (omega (arith, done .begins, done .order)) (done .covers) x)
 
-  pub held : WellFormed t → In (closed F lack u) (t .view) start → Held (t .schema) (t .query) (t .view)
-  held formed x = λ I legal d h q.
+  pub held : WellFormed t → Unmarked (t .view) → In (closed F lack u) (t .view) start → Held (t .schema) (t .query) (t .view)
+  held formed plain x = λ I legal d h q.
       let w = fitting t formed I legal d h q in
-      subst (In I (t .view)) (w .2) (held-at I (w .0) (w .1) x)
+      subst (In I (t .view)) (w .2) (held-at I (w .0) (w .1) plain x)

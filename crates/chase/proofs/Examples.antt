@@ -9,8 +9,8 @@ use Rattle.records.specs.declared.schema.Axiom.{Axiom}
 use Rattle.records.specs.declared.schema.Axiom.the-variants.{Subclass, Typing, Necessary, Single, Relates}
 use Rattle.records.specs.Finite.{any, count}
 use Rattle.records.specs.Schema.{Schema}
-use Rattle.records.specs.Concept.{forward, backward, Concept, class, everything, constant, both, reached, common, Path, empty, step}
-use Rattle.records.specs.Layout.{schemaLayout, sizeAt, entries, leftAt, rightAt}
+use Rattle.records.specs.Concept.{forward, backward, Concept, class, everything, constant, both, reached, common, mark, Path, empty, step}
+use Rattle.records.specs.Layout.{schemaLayout, sizeAt, entries, leftAt, rightAt, queryMarks, noMarks}
 use Rattle.records.specs.SchemaRecord.{signatureOf, axiomKind, axiomOf, schemaOf}
 use Rattle.records.specs.Encoding.{recordOf, schemaRecord, axiomWords}
 use Rattle.records.specs.Executable.{isIn}
@@ -20,7 +20,7 @@ use Rattle.chase.specs.ClassSet.{place, meets, has, full}
 use Rattle.chase.specs.Axioms.{collect, needs, isSingle, raise, closure, image}
 use Rattle.records.specs.Subsumption.{Held, Open}
 use Rattle.chase.specs.Declared.{DeclaredAxiom}
-use Rattle.chase.specs.Task.{Task, WellFormed, asked}
+use Rattle.chase.specs.Task.{Task, WellFormed, asked, markNode, ties}
 use Rattle.chase.specs.Primary.{repOf, setOf, add, join, merge, begin, settled, primary, clash}
 use Rattle.records.specs.State.{repeats}
 use Rattle.chase.specs.Ground.{live, objectOf, listing, groundOf, ground}
@@ -126,17 +126,38 @@ rows =
           (back (to empty 0 everything) 0 (class 1));
       held = false;
     }
+    -- one mark at two places, and two marks
+    ∷ record {
+      schema = letters [];
+      query = both (some 0 (both (class 1) (mark 0))) (some 0 (both (class 2) (mark 0)));
+      view = some 0 (both (class 1) (class 2));
+      held = true;
+    }
+    ∷ record {
+      schema = letters [];
+      query = both (some 0 (both (class 1) (mark 0))) (some 0 (both (class 2) (mark 1)));
+      view = some 0 (both (class 1) (class 2));
+      held = false;
+    }
+    -- a mark at the start, and one at a constant
+    ∷ record { schema = letters []; query = both (mark 3) (some 0 (mark 3)); view = common (to empty 0 everything) empty; held = true }
+    ∷ record {
+      schema = schemaFrom (declaring 1 1 2 0) [];
+      query = both (both (constant 0) (mark 1)) (some 0 (both (constant 1) (mark 1)));
+      view = class 0;
+      held = true;
+    }
     ∷ record { schema = medical; query = queryPatient; view = viewPatient; held = true }
     ∷ record { schema = medical; query = viewPatient; view = queryPatient; held = false }
     ∷ []
 
 agrees : List Row → Bool
 agrees [] = true
-agrees (r ∷ l) = Bool·beq (verdict record { schema = r .schema; query = r .query; view = r .view }) (r .held) && agrees l
+agrees (r ∷ l) = Bool·beq (verdict record { schema = r .schema; query = r .query; view = r .view; marks = queryMarks }) (r .held) && agrees l
 
 -- to unfold this is to unfold the whole model
 model : Unit {0}
-unfolding verdict clash repeats primary settled begin settle upto each repOf setOf add join merge asked raise collect has meets place
+unfolding verdict clash repeats primary settled begin settle upto each repOf setOf add join merge asked markNode ties raise collect has meets place
     needs isSingle closure image ground groundOf live objectOf listing count any forest walks makeFor make lacks kid parent size
     asks anyOf classesOf full links lacking objects
 model = tt
@@ -148,7 +169,7 @@ rows-agree = refl
 -- The hypotheses of the theorems can be met: the second row once more, as a theorem on all states, and with another view
 -- as a counterexample.
 needing : Concept → Task
-needing view = record { schema = letters (Necessary 0 0 ∷ Relates 0 1 2 ∷ []); query = class 0; view = view }
+needing view = record { schema = letters (Necessary 0 0 ∷ Relates 0 1 2 ∷ []); query = class 0; view = view; marks = noMarks }
 
 needing-formed : (view : Concept) → WellFormed (needing view)
 unfolding read needing letters
@@ -161,7 +182,7 @@ needing-formed view = record { axioms = declared; query = omega arith }
 
 needing-held : Held (needing (class 1) .schema) (class 0) (class 1)
 unfolding model read needing letters
-needing-held = says-held (needing (class 1)) (needing-formed (class 1)) refl
+needing-held = says-held (needing (class 1)) (needing-formed (class 1)) tt refl
 
 needing-open : Open (needing (class 2) .schema) (class 0) (class 2)
 unfolding model read needing letters

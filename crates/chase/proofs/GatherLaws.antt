@@ -63,10 +63,13 @@ module _ (f : ℕ → List ℕ) where
       )
 
 -- the same lists
-pub gather-each : (f g : ℕ → List ℕ) → ((i : ℕ) → f i ≡ g i) → (n : ℕ) → gather n f ≡ gather n g
+pub gather-below : (f g : ℕ → List ℕ) (n : ℕ) → ((i : ℕ) → i < n → f i ≡ g i) → gather n f ≡ gather n g
 unfolding gather
-gather-each f g h zero = refl
-gather-each f g h (suc n) = ap₂ _++_ (gather-each f g h n) (h n)
+gather-below f g zero h = refl
+gather-below f g (suc n) h = ap₂ _++_ (gather-below f g n (λ i l. h i (omega arith))) (h n (omega arith))
+
+pub gather-each : (f g : ℕ → List ℕ) → ((i : ℕ) → f i ≡ g i) → (n : ℕ) → gather n f ≡ gather n g
+gather-each f g h n = gather-below f g n (λ i _. h i)
 
 -- rows of rows
 pub gather-rows : (m n : ℕ) (f : ℕ → ℕ → List ℕ) (g : ℕ → ℕ → ℕ) → ((i j : ℕ) → length (f i j) ≤ g i j)

@@ -11,7 +11,7 @@ use Rattle.records.specs.State.{Member, Related}
 use Rattle.chase.specs.ClassSet.{has}
 use Rattle.chase.specs.Axioms.{domain, values, isSingle, raise}
 use Rattle.chase.specs.Facts.{Edge}
-use Rattle.chase.specs.Task.{Task, WellFormed, nodes, startNode, constantNode, asked}
+use Rattle.chase.specs.Task.{Task, WellFormed, nodes, startNode, constantNode, markNode, asked}
 use Rattle.chase.specs.Primary.{Prime, repOf, setOf, rival}
 use Rattle.chase.specs.Ground.{Ground, setAt, live, objectOf, listing, renumber, groundOf}
 use Rattle.records.proofs.General.BoolLaws.{and-both}
@@ -21,7 +21,7 @@ use Rattle.chase.proofs.Consequence.{Follows}
 use Rattle.records.proofs.General.CountLaws.{count-lt, pick, pick-is, count-injective}
 use Rattle.chase.proofs.ListingLaws.{listing-at}
 use Rattle.chase.proofs.PrimeLaws.{Ok, set-small, set-sound}
-use Rattle.chase.proofs.PrimaryLaws.{Is-edge, are-edges, Closed}
+use Rattle.chase.proofs.PrimaryLaws.{mark-inside, Is-edge, are-edges, Closed}
 
 pub record Grounded (t : Task) (G : Ground) (node : ℕ → ℕ) : Type 0 where
   -- in order and closed
@@ -39,6 +39,7 @@ pub record Grounded (t : Task) (G : Ground) (node : ℕ → ℕ) : Type 0 where
       (G .edges)
   pub start : G .start < G .objects
   pub constants : (a : ℕ) → a < t .schema .signature .constants → G .constants a < G .objects
+  pub marks : (k : ℕ) → G .marks k < G .objects
   -- following
   pub members : (A d : ℕ) → d < G .objects → So (has (setAt G d) A) → Follows t λ I g. Member I A (g (node d))
   pub pairs : All (λ e. Follows t λ I g. Related I (e .attribute) (g (node (e .origin))) (g (node (e .target)))) (G .edges)
@@ -140,6 +141,7 @@ module _ (t : Task) (formed : WellFormed t) (x : Prime) (ok : Ok t x) (closed : 
         singles = with-edge _ _ (λ e k h. with-edge _ _ (λ f l. same-target e f k l) h) (closed .singles);
         start = object-inside t x ok (startNode t) (omega arith);
         constants = λ a h. object-inside t x ok (constantNode t a) (omega arith);
+        marks = λ k. object-inside t x ok (markNode t k) (mark-inside t formed k);
         members = λ A d h a I g fits.
             set-sound t x ok I g fits (nodeOf t x d) (node-is t x ok d h .0) A (subst (λ (c : ℕ). So (has c A)) (node-set t x ok d h) a);
         pairs =

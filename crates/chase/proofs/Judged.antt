@@ -13,17 +13,19 @@ use Rattle.records.specs.StateRecord.{stateOf}
 use Rattle.records.specs.SchemaRefusal.{AcceptedSchema}
 use Rattle.records.specs.ConceptRefusal.{AcceptedConcept}
 use Rattle.records.specs.StateRefusal.{AcceptedState}
+use Rattle.records.specs.Marks.{usedMarks}
+use Rattle.records.specs.Outcome.{querySignature, choiceSignature}
 use Rattle.chase.specs.Declared.{Declared}
-use Rattle.chase.specs.Task.{Task, taskOf}
+use Rattle.chase.specs.Task.{Task, signature, taskOf}
 use Rattle.chase.specs.Primary.{clash}
 use Rattle.chase.specs.Candidate.{candidate, first}
 use Rattle.chase.specs.Written.{written}
 use Rattle.chase.proofs.Answers.{clash-held, start-selected, says-held, says-open}
 use Rattle.chase.proofs.Alike.{Alike, alike-sym, in-alike, counterexample-alike}
-use Rattle.chase.proofs.AcceptanceLaws.{Within, accepted-within, accepted-view}
+use Rattle.chase.proofs.AcceptanceLaws.{Within, accepted-within, accepted-view, unmarked-view}
 use Rattle.chase.proofs.WrittenLaws.{written-accepted, written-alike}
 
-module _ (schema query view : List ℕ) (legal : AcceptedSchema schema) (asked : AcceptedConcept querySteps (signatureOf schema) query)
+module _ (schema query view : List ℕ) (legal : AcceptedSchema schema) (asked : AcceptedConcept querySteps (querySignature schema) query)
     (stored : AcceptedConcept viewSteps (signatureOf schema) view) where
   within : Within (taskOf schema query view)
   within = accepted-within schema query view legal asked stored
@@ -36,14 +38,14 @@ module _ (schema query view : List ℕ) (legal : AcceptedSchema schema) (asked :
     abbrev t : Task
     t = taskOf schema query view
 
-    alike : Alike (t .schema .signature) (candidate t) (stateOf (written t))
+    alike : Alike (signature t) (candidate t) (stateOf (written t))
     alike = written-alike t within apart
 
-    declared : Declared (t .schema .signature) (t .view)
+    declared : Declared (signature t) (t .view)
     unfolding taskOf schemaOf
-    declared = accepted-view schema query view legal asked stored
+    declared = accepted-view schema query view legal asked stored (usedMarks query)
 
-    pub written-fits : AcceptedState (signatureOf schema) (written t)
+    pub written-fits : AcceptedState (choiceSignature schema query) (written t)
     unfolding taskOf schemaOf
     written-fits = written-accepted t within apart
 
@@ -53,16 +55,16 @@ module _ (schema query view : List ℕ) (legal : AcceptedSchema schema) (asked :
     pub start-in : In (stateOf (written t)) (conceptOf view) (first t) → Held (schemaOf schema) (conceptOf query) (conceptOf view)
     unfolding taskOf
     start-in x =
-        says-held t (within .formed)
-        (in-alike (t .schema .signature) (stateOf (written t)) (candidate t) (alike-sym (t .schema .signature) (candidate t) (stateOf (written t)) alike)
+        says-held t (within .formed) (unmarked-view schema query view legal asked stored)
+        (in-alike (signature t) (stateOf (written t)) (candidate t) (alike-sym (signature t) (candidate t) (stateOf (written t)) alike)
         (t .view) (first t) declared start-small x)
 
     pub start-out : (In (stateOf (written t)) (conceptOf view) (first t) → ⊥)
         → Counterexample (schemaOf schema) (conceptOf query) (conceptOf view) (stateOf (written t)) (first t)
     unfolding taskOf
     start-out x =
-        counterexample-alike (t .schema) (t .query) (t .view) (candidate t) (stateOf (written t)) (first t) alike
+        counterexample-alike (t .schema) (t .marks) (t .query) (t .view) (candidate t) (stateOf (written t)) (first t) alike
         (within .formed .axioms) (within .formed .query) declared
         (says-open t (within .formed) apart
-        (λ y. x (in-alike (t .schema .signature) (candidate t) (stateOf (written t)) alike (t .view) (first t) declared
+        (λ y. x (in-alike (signature t) (candidate t) (stateOf (written t)) alike (t .view) (first t) declared
         (start-selected t (within .formed) apart .0) y)))

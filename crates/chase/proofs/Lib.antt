@@ -16,6 +16,7 @@ pub mod Done
 pub mod ClassSetLaws
 pub mod AxiomLaws
 pub mod ClosureLaws
+pub mod TieLaws
 pub mod PrimeLaws
 pub mod PrimaryLaws
 pub mod GroundLaws

@@ -12,11 +12,11 @@ use borrow.Author.Tests.{eqb-true, ne-eqb}
 use Rattle.records.specs.Finite.{count}
 use Rattle.records.specs.Schema.{Schema}
 use Rattle.chase.specs.Loops.{anyOf}
-use Rattle.records.specs.Concept.{Direction, forward, backward, Concept, class, everything, constant, both, reached, common, Path, empty, step}
+use Rattle.records.specs.Concept.{Direction, forward, backward, Concept, class, everything, constant, both, reached, common, mark, Path, empty, step}
 use Rattle.records.specs.Helpers.Steps.{conceptSteps, pathSteps}
 use Rattle.chase.specs.Task.{Task, asked}
 use Rattle.chase.specs.Primary.{primary}
-use Rattle.chase.specs.Facts.{Edge, Facts, equal, related, _⊕_, endNode, conceptFacts, pathFacts}
+use Rattle.chase.specs.Facts.{atNode, Edge, Facts, equal, related, _⊕_, endNode, conceptFacts, pathFacts}
 use Rattle.chase.specs.Ground.{Ground, listing, renumber, groundOf, ground}
 use Rattle.chase.specs.Forest.{Forest, size, kid, push, lacks}
 use Rattle.chase.specs.Candidate.{links, objects}
@@ -165,7 +165,7 @@ mutual
   concept-edges (reached p) f n k = path-edges p f n k
   concept-edges (common p q) f n k =
       let m = k + pathSteps p in
-      let E = equal (endNode p n k) (endNode q n m) in
+      let E = equal (endNode p n k) (atNode (endNode q n m)) in
       omega (
         arith,
         edges-append (pathFacts f q n m ⊕ E) (pathFacts f p n k),
@@ -173,6 +173,7 @@ mutual
         path-edges q f n m,
         path-edges p f n k,
       )
+  concept-edges (mark m) f n k = refl
 
   path-edges : (p : Path) (first n k : ℕ) → length (pathFacts first p n k .edges) ≡ pathSteps p
   path-edges empty f n k = refl

@@ -2,31 +2,32 @@
 -- Each rule grows, since its fact follows from the query; so does the pass, and at its fixed point every rule is at rest.
 use Prim.Native.Nat.{ℕ, zero, suc, _^_, _<_}
 use native.Mathlib.Omega.{arith}
-use mathlib.Core.Bool.{Bool, So, cond, _&&_}
+use mathlib.Core.Bool.{Bool, So, cond, _&&_, false≢true}
 use mathlib.Core.Logic.{_⊎_, inl}
 use mathlib.Core.Path.{_≡_, refl, sym, ap, subst, subst₂, _∙_}
 use mathlib.Core.List.{List, [], _∷_}
 use lib.Dec.{eqb}
 use lib.ListN.{getD, replicate, length-replicate, getD-replicate}
 use lib.Pow.{pow-pos}
-use borrow.Author.Tests.{eqb-true}
+use borrow.Author.Tests.{eqb-true, eq-eqb}
 use Rattle.records.specs.State.{State, Member, Related}
 use Rattle.records.specs.Helpers.Steps.{conceptSteps}
 use Rattle.chase.specs.Loops.{each}
 use Rattle.chase.specs.ClassSet.{place, has}
 use Rattle.chase.specs.Axioms.{domain, values, isSingle, raise}
-use Rattle.chase.specs.Facts.{Membership, Equation, Edge}
-use Rattle.chase.specs.Task.{Task, WellFormed, nodes, asked}
+use Rattle.chase.specs.Facts.{Membership, Side, atNode, ofMark, Equation, Edge}
+use Rattle.chase.specs.Task.{Task, WellFormed, signature, nodes, startNode, asked, stands, markNode, Tie, tie, ties}
 use Rattle.chase.specs.Primary.{Prime, repOf, setOf, merge, equate, assert, lift, typeOrigin, typeTarget, rival, unify, equateAll, assertAll, liftAll, typeAll, unifyAll, pass, weight, numbersFrom, begin, bound, settled, primary}
 use Rattle.records.proofs.General.BoolLaws.{cond-elim, and-parts}
-use Rattle.records.proofs.General.AllLaws.{All, all-map, all-zip}
+use Rattle.records.proofs.General.AllLaws.{All, all-map, all-zip, all-mapped}
 use Rattle.chase.proofs.LoopLaws.{Grows, then-grows, then-fixed, each-grows, each-fixed, upto-grows, upto-fixed, settle-ok, settle-fixed, settle-next, settle-stop}
 use Rattle.chase.proofs.ClassSetLaws.{place-has, place-only, place-below, has-none, has-absorbed}
 use Rattle.chase.proofs.AxiomLaws.{domain-small, values-small}
 use Rattle.chase.proofs.ClosureLaws.{domain-sound, values-sound, single-sound, raise-forced, raise-fixed}
-use Rattle.chase.proofs.FactsLaws.{AllFacts, Within, facts-within}
+use Rattle.chase.proofs.FactsLaws.{AllFacts, OnSide, Within, facts-within, sideObject}
 use Rattle.chase.proofs.Consequence.{Follows}
 use Rattle.chase.proofs.ListLaws.{numbers-length, numbers-at}
+use Rattle.chase.proofs.TieLaws.{anchor-is, anchor-all}
 use Rattle.chase.proofs.PrimeLaws.{Ok, set-small, set-sound, add-grows, add-fixed, merge-grows, merge-fixed, weight-bound}
 
 -- what each entry has under every fitting assignment, each entry has
@@ -39,16 +40,17 @@ module _ (t : Task) (formed : WellFormed t) where
   pub within : Within (t .schema .signature .classes) (λ n. n < nodes t) (asked t)
   unfolding asked
   within =
-      facts-within (t .schema .signature) (suc (conceptSteps (t .query))) (λ n. n < nodes t) (λ a h. omega arith) (t .query)
+      facts-within (signature t) (suc (conceptSteps (t .query))) (λ n. n < nodes t) (λ a h. omega arith) (t .query)
       (conceptSteps (t .query)) zero
       (formed .query) (omega arith) (λ j h k. omega arith)
 
-  follow : AllFacts (λ f. Follows t λ I g. Member I (f .class) (g (f .node))) (λ f. Follows t λ I g. g (f .left) ≡ g (f .right))
+  follow : AllFacts (λ f. Follows t λ I g. Member I (f .class) (g (f .node)))
+      (λ f. Follows t λ I g. g (f .left) ≡ sideObject I g (f .right))
       (λ f. Follows t λ I g. Related I (f .attribute) (g (f .origin)) (g (f .target))) (asked t)
   follow =
       record {
         members = all-follow t (λ I g f. Member I (f .class) (g (f .node))) (asked t .members) (λ I g fits. fits .meets .members);
-        equations = all-follow t (λ I g f. g (f .left) ≡ g (f .right)) (asked t .equations) (λ I g fits. fits .meets .equations);
+        equations = all-follow t (λ I g f. g (f .left) ≡ sideObject I g (f .right)) (asked t .equations) (λ I g fits. fits .meets .equations);
         edges = all-follow t (λ I g f. Related I (f .attribute) (g (f .origin)) (g (f .target))) (asked t .edges)
             (λ I g fits. fits .meets .edges);
       }
@@ -58,10 +60,48 @@ module _ (t : Task) (formed : WellFormed t) where
 
   -- the query's facts: of nodes, and following
   abbrev Is-equation : Equation → Type 0
-  Is-equation f = (f .left < nodes t) × (f .right < nodes t) × (Follows t λ I g. g (f .left) ≡ g (f .right))
+  Is-equation f =
+      (f .left < nodes t) × OnSide (λ n. n < nodes t) (f .right) × (Follows t λ I g. g (f .left) ≡ sideObject I g (f .right))
 
   are-equations : All Is-equation (asked t .equations)
   are-equations = all-zip (λ f w h. (w .0, w .1, h)) (asked t .equations) (within .equations) (follow .equations)
+
+  pub mark-inside : (k : ℕ) → markNode t k < nodes t
+  unfolding markNode
+  mark-inside k =
+      anchor-is (λ n. n < nodes t) k (asked t .equations) (startNode t) (all-map (λ f w s. w .0) (asked t .equations) (within .equations))
+      (omega arith)
+
+  -- the node of a mark that stands somewhere is the mark's object
+  marks-met : All (λ f. Follows t λ I g. (k : ℕ) → So (stands k f) → g (markNode t k) ≡ I .marks k) (asked t .equations)
+  unfolding markNode
+  marks-met =
+      all-follow t (λ I g f. (k : ℕ) → So (stands k f) → g (markNode t k) ≡ I .marks k) (asked t .equations) λ I g fits.
+      anchor-all (λ k n. g n ≡ I .marks k) (asked t .equations) (λ k. startNode t)
+      (all-map (λ f e k s. standing I g k (f .left) (f .right) e s) (asked t .equations) (fits .meets .equations))
+    where
+      standing : (I : State) (g : ℕ → ℕ) (k n : ℕ) (m : Side) → g n ≡ sideObject I g m → So (stands k record { left = n; right = m })
+          → g n ≡ I .marks k
+      standing I g k n (atNode j) e s = absurd (false≢true s)
+      standing I g k n (ofMark j) e s = e ∙ ap (I .marks) (sym (eqb-true k j s))
+
+  abbrev Is-tie : Tie → Type 0
+  Is-tie f = (f .left < nodes t) × (f .right < nodes t) × (Follows t λ I g. g (f .left) ≡ g (f .right))
+
+  are-ties : All Is-tie (ties t)
+  unfolding ties
+  are-ties =
+      all-mapped Is-tie (tie (markNode t)) (asked t .equations)
+      (all-zip (λ f k m. is-tie (f .left) (f .right) (k .0) (k .1) (k .2) m) (asked t .equations) are-equations marks-met)
+    where
+      is-tie : (n : ℕ) (m : Side) → n < nodes t → OnSide (λ i. i < nodes t) m → (Follows t λ I g. g n ≡ sideObject I g m)
+          → (Follows t λ I g. (k : ℕ) → So (stands k record { left = n; right = m }) → g (markNode t k) ≡ I .marks k)
+          → Is-tie (tie (markNode t) record { left = n; right = m })
+      is-tie n (atNode j) h w e met = (h, w, e)
+      is-tie n (ofMark k) h w e met = (h, mark-inside k, λ I g fits. e I g fits ∙ sym (met I g fits k (eq-eqb k k refl)))
+
+  pub ties-inside : All (λ f. (f .left < nodes t) × (f .right < nodes t)) (ties t)
+  ties-inside = all-map (λ f k. (k .0, k .1)) (ties t) are-ties
 
   abbrev Is-member : Membership → Type 0
   Is-member f = (f .class < t .schema .signature .classes) × (f .node < nodes t) × (Follows t λ I g. Member I (f .class) (g (f .node)))
@@ -75,7 +115,7 @@ module _ (t : Task) (formed : WellFormed t) where
   pub are-edges : All Is-edge (asked t .edges)
   are-edges = all-zip (λ e w h. (w .0, w .1, h)) (asked t .edges) (within .edges) (follow .edges)
 
-  equate-grows : (f : Equation) → Is-equation f → Rises (equate f)
+  equate-grows : (f : Tie) → Is-tie f → Rises (equate f)
   equate-grows f k x ok = merge-grows t x ok (f .left) (f .right) (k .0) (k .1) (k .2)
 
   assert-grows : (f : Membership) → Is-member f → Rises (assert f)
@@ -148,7 +188,7 @@ module _ (t : Task) (formed : WellFormed t) where
 
 -- no rule adds anything to x
 pub record Closed (t : Task) (x : Prime) : Type 0 where
-  pub equations : All (λ f. repOf x (f .left) ≡ repOf x (f .right)) (asked t .equations)
+  pub ties : All (λ f. repOf x (f .left) ≡ repOf x (f .right)) (ties t)
   pub members : All (λ f. So (has (setOf x (f .node)) (f .class))) (asked t .members)
   pub raised : (n : ℕ) → n < nodes t → raise (t .schema) (setOf x n) ≡ setOf x n
   pub origins : All (λ e. (A : ℕ) → So (has (domain (t .schema) (e .attribute)) A) → So (has (setOf x (e .origin)) A)) (asked t .edges)
@@ -183,8 +223,7 @@ module _ (t : Task) (formed : WellFormed t) where
   from-assert = then-grows weight (Ok t) (assertAll t) (λ x. unifyAll t (typeAll t (liftAll t x))) assert-rises from-lift
 
   equate-rises : Grows weight (Ok t) (equateAll t)
-  equate-rises = each-grows weight (Ok t) equate (asked t .equations)
-      (all-map (equate-grows t formed) (asked t .equations) (are-equations t formed))
+  equate-rises = each-grows weight (Ok t) equate (ties t) (all-map (equate-grows t formed) (ties t) (are-ties t formed))
 
   pub pass-grows : Grows weight (Ok t) (pass t)
   pass-grows = then-grows weight (Ok t) (equateAll t) (λ x. unifyAll t (typeAll t (liftAll t (assertAll t x)))) equate-rises from-assert
@@ -210,8 +249,8 @@ module _ (t : Task) (formed : WellFormed t) where
         let q3 = then-fixed weight (Ok t) (liftAll t) (λ y. unifyAll t (typeAll t y)) lift-rises from-type x ok (q2 .1) in
         let q4 = then-fixed weight (Ok t) (typeAll t) (unifyAll t) type-rises unify-rises x ok (q3 .1) in
         record {
-          equations =
-              at-rest equate (asked t .equations) (equate-grows t formed) (are-equations t formed) (q1 .0)
+          ties =
+              at-rest equate (ties t) (equate-grows t formed) (are-ties t formed) (q1 .0)
               (λ f k e. merge-fixed t x ok (f .left) (f .right) (k .0) (k .1) (k .2) e);
           members =
               at-rest assert (asked t .members) (assert-grows t formed) (are-members t formed) (q2 .0)

@@ -4,12 +4,12 @@ use Prim.Native.Nat.{ℕ, suc, _+_}
 use native.Mathlib.Omega.{arith}
 use mathlib.Core.List.{List}
 use mathlib.Core.Path.{_≡_, sym, ap, ap₂, _∙_}
-use Rattle.records.specs.declared.token.Token.the-variants.{Class, Everything, Constant, Both, Empty, Reached, Common}
-use Rattle.records.specs.Concept.{Direction, Concept, class, everything, constant, both, reached, common, Path}
+use Rattle.records.specs.declared.token.Token.the-variants.{Class, Everything, Constant, Both, Empty, Reached, Common, Mark}
+use Rattle.records.specs.Concept.{Direction, Concept, class, everything, constant, both, reached, common, mark, Path}
 use Rattle.records.specs.Helpers.Reading.{startOf, conceptAt, pathAt, stepNumber}
 use Rattle.records.proofs.ReadingLaws.{Reads, ReadsStep, ReadsPath, number-concept, number-path}
 use Rattle.records.specs.Helpers.Steps.{conceptSteps, pathSteps}
-use Rattle.chase.specs.Facts.{none, member, equal, related, _⊕_, endNode, conceptFacts, pathFacts}
+use Rattle.chase.specs.Facts.{atNode, ofMark, none, member, equal, related, _⊕_, endNode, conceptFacts, pathFacts}
 use Rattle.chase.specs.QueryTokens.{factsAt, pathFactsAt, endAt}
 
 module _ (first : ℕ) (w : List ℕ) (e n : ℕ) where
@@ -24,8 +24,11 @@ module _ (first : ℕ) (w : List ℕ) (e n : ℕ) where
   pub facts-everything : Reads w e Everything → factsAt first w (suc e) n ≡ none
   facts-everything r = facts-of everything e (r .0) (r .1)
 
-  pub facts-constant : (a : ℕ) → Reads w e (Constant a) → factsAt first w (suc e) n ≡ equal n (first + a)
+  pub facts-constant : (a : ℕ) → Reads w e (Constant a) → factsAt first w (suc e) n ≡ equal n (atNode (first + a))
   facts-constant a r = facts-of (constant a) e (r .0) (r .1)
+
+  pub facts-mark : (k : ℕ) → Reads w e (Mark k) → factsAt first w (suc e) n ≡ equal n (ofMark k)
+  facts-mark k r = facts-of (mark k) e (r .0) (r .1)
 
   pub facts-both : Reads w e Both → factsAt first w (suc e) n ≡ factsAt first w e n ⊕ factsAt first w (startOf w e 1) n
   facts-both r =
@@ -38,11 +41,11 @@ module _ (first : ℕ) (w : List ℕ) (e n : ℕ) where
 
   pub facts-common : Reads w e Common
       → factsAt first w (suc e) n
-      ≡ pathFactsAt first w e n ⊕ equal (endAt w (startOf w e 1) n) (endAt w e n) ⊕ pathFactsAt first w (startOf w e 1) n
+      ≡ pathFactsAt first w e n ⊕ equal (endAt w (startOf w e 1) n) (atNode (endAt w e n)) ⊕ pathFactsAt first w (startOf w e 1) n
   facts-common r =
       let m = startOf w e 1 in
       facts-of (common (pathAt w m) (pathAt w e)) (startOf w m 1) (r .0) (r .1)
-      ∙ ap (λ (k : ℕ). pathFacts first (pathAt w e) n k ⊕ equal (endAt w m n) (endNode (pathAt w e) n k) ⊕ pathFactsAt first w m n)
+      ∙ ap (λ (k : ℕ). pathFacts first (pathAt w e) n k ⊕ equal (endAt w m n) (atNode (endNode (pathAt w e) n k)) ⊕ pathFactsAt first w m n)
       (sym (number-path w m (r .3)))
 
   -- a path's facts, with its end

@@ -7,7 +7,7 @@ use mathlib.Core.Path.{_≡_, refl, ap}
 use mathlib.Core.List.{List, [], _∷_}
 use lib.ListN.{length}
 use Rattle.records.specs.Schema.{Schema}
-use Rattle.records.specs.Concept.{Direction, forward, backward, Concept, class, everything, constant, both, reached, common, Path, empty, step}
+use Rattle.records.specs.Concept.{Direction, forward, backward, Concept, class, everything, constant, both, reached, common, mark, Path, empty, step}
 use Rattle.chase.specs.Loops.{each, upto}
 use Rattle.records.specs.Helpers.Steps.{conceptSteps, pathSteps}
 use Rattle.chase.specs.Ground.{Ground}
@@ -85,6 +85,7 @@ module _ (S : Schema) (G : Ground) where
     walk-size (reached p) s l T j h = trek-size p s l T j h .0
     walk-size (common p q) s l T j h =
         omega (arith, trek-size p s l T j h .0, trek-size q s l (trek S G p s l T .0) j h .0, tri-convex j (pathSteps p) (pathSteps q))
+    walk-size (mark k) s l T j h = omega (arith, tri-mono j 0)
 
     pub trek-size : (p : Path) (s : ℕ) (l : List ℕ) (T : Forest) (j : ℕ) → length l ≤ j
         → (size G (trek S G p s l T .0) + tri j ≤ size G T + tri (j + pathSteps p)) × (length (trek S G p s l T .1) ≤ j + pathSteps p)

@@ -7,7 +7,7 @@ use mathlib.Core.Bool.{false}
 use mathlib.Core.Path.{_≡_, refl, sym, ap, ap₂, subst, _∙_}
 use mathlib.Core.List.{List, [], _∷_}
 use Rattle.records.specs.Schema.{Schema}
-use Rattle.records.specs.Concept.{Direction, forward, backward, Concept, class, everything, constant, both, reached, common, Path, empty, step}
+use Rattle.records.specs.Concept.{Direction, forward, backward, Concept, class, everything, constant, both, reached, common, mark, Path, empty, step}
 use Rattle.chase.specs.Loops.{each, upto}
 use Rattle.chase.specs.Ground.{Ground}
 use Rattle.chase.specs.Forest.{Forest, bare, size, hop, push, next, lacks, sprout, make, makeFor, walk, trek, walks}
@@ -87,6 +87,7 @@ module _ (S : Schema) (G : Ground) where
       Cov (both C D) s l = Cov C s l × Cov D s l
       Cov (reached p) s l = CovPath p s l
       Cov (common p q) s l = CovPath p s l × CovPath q s l
+      Cov (mark k) s l = Unit {0}
 
       pub CovPath : Path → ℕ → List ℕ → Type 0
       CovPath empty s l = Unit {0}
@@ -103,6 +104,7 @@ module _ (S : Schema) (G : Ground) where
       cov-grown (both C D) s l c = (cov-grown C s l (c .0), cov-grown D s l (c .1))
       cov-grown (reached p) s l c = path-grown p s l c .0
       cov-grown (common p q) s l c = (path-grown p s l (c .0) .0, path-grown q s l (c .1) .0)
+      cov-grown (mark k) s l c = tt
 
       path-grown : (p : Path) (s : ℕ) (l : List ℕ) → CovPath T p s l → CovPath U p s l × (along U p s l ≡ along T p s l)
       path-grown empty s l c = (tt, refl)
@@ -165,6 +167,7 @@ module _ (S : Schema) (G : Ground) where
         let d = trek-covers q s l (trek S G p s l T .0) (grown-trans S G valid (c .0)) (omega (arith, grown-size S G (c .0)))
         (inside-grown (c .0) l hl) in
         (grown-trans S G (c .0) (d .0), (path-grown (d .0) p s l (c .1) .0, d .1))
+    walk-covers (mark k) s l T valid hs hl = (same, tt)
 
     trek-covers : (p : Path) (s : ℕ) (l : List ℕ) (T : Forest) → Grown S G bare T → s < size G T → All (λ d. d < size G T) l
         → Trekked p s l T (trek S G p s l T .0) (trek S G p s l T .1)

@@ -6,14 +6,14 @@ use native.Mathlib.Omega.{arith}
 use mathlib.Core.Path.{_≡_, refl, sym, subst, subst₂, _∙_}
 use Rattle.records.specs.declared.schema.Signature.{Signature}
 use Rattle.records.specs.State.{State, Member, Related}
-use Rattle.records.specs.Concept.{Direction, Concept, class, everything, constant, both, reached, common, Path, empty, step}
+use Rattle.records.specs.Concept.{Direction, Concept, class, everything, constant, both, reached, common, mark, Path, empty, step}
 use Rattle.records.specs.Semantics.{Steps, In, Leads}
 use Rattle.records.specs.Helpers.Steps.{conceptSteps, pathSteps}
-use Rattle.chase.specs.Facts.{Facts, endNode, conceptFacts, pathFacts}
+use Rattle.chase.specs.Facts.{Side, atNode, ofMark, Facts, endNode, conceptFacts, pathFacts}
 use Rattle.chase.specs.Declared.{Declared, DeclaredPath}
 use Rattle.records.proofs.General.Update.{put, put-same, put-other, put-elim}
 use Rattle.records.proofs.General.AllLaws.{all-zip}
-use Rattle.chase.proofs.FactsLaws.{Within, end-within, facts-within, path-within, facts-append, facts-none, Meets, steps-meet, equal-meets, Assigns}
+use Rattle.chase.proofs.FactsLaws.{Within, end-within, facts-within, path-within, facts-append, facts-none, OnSide, sideObject, Meets, steps-meet, equal-meets, Assigns}
 
 -- an assignment that meets F and is g from node b on
 pub record Chosen (s : Signature) (first : ℕ) (I : State) (g : ℕ → ℕ) (b : ℕ) (F : Facts) : Type 0 where
@@ -27,13 +27,17 @@ meets-above : (I : State) (g f : ℕ → ℕ) (classes b : ℕ) (F : Facts) → 
 meets-above I g f classes b F same w m =
     record {
       members = all-zip (λ x u v. subst (Member I (x .class)) (sym (same (x .node) (u .1))) v) (F .members) (w .members) (m .members);
-      equations = all-zip (λ x u v. same (x .left) (u .0) ∙ v ∙ sym (same (x .right) (u .1))) (F .equations) (w .equations)
+      equations = all-zip (λ x u v. same (x .left) (u .0) ∙ v ∙ sym (side-same (x .right) (u .1))) (F .equations) (w .equations)
           (m .equations);
       edges =
           all-zip
           (λ x u v. subst₂ (Related I (x .attribute)) (sym (same (x .origin) (u .0))) (sym (same (x .target) (u .1))) v)
           (F .edges) (w .edges) (m .edges);
     }
+  where
+    side-same : (n : Side) → OnSide (λ n. b ≤ n) n → sideObject I f n ≡ sideObject I g n
+    side-same (atNode n) h = same n h
+    side-same (ofMark k) h = refl
 
 module _ (s : Signature) (first : ℕ) (I : State) where
   abbrev unchanged : (g : ℕ → ℕ) (b : ℕ) (F : Facts) → Assigns s first I g → Meets I g F → Chosen s first I g b F
@@ -92,7 +96,7 @@ module _ (s : Signature) (first : ℕ) (I : State) where
           = v .0 .above (endNode q n m) (end-within (λ i. m ≤ i) q n m (omega arith) (λ i h l. h)) ∙ u .1 in
           join g g _ _ m _ _ _ (u .0) (v .0) (omega arith) (from-path q n m c (omega arith) (omega arith))
           (λ i h. u .0 .above i (omega arith))
-          (λ a b. facts-append (facts-append a (equal-meets I (v .0 .assign) (endNode p n k) (endNode q n m) (v .1 ∙ sym last))) b)
+          (λ a b. facts-append (facts-append a (equal-meets I (v .0 .assign) (endNode p n k) (atNode (endNode q n m)) (v .1 ∙ sym last))) b)
 
   -- object e stands at the step's own node
   join-step : (p : Path) (r : Direction) (P : ℕ) (C : Concept) (n k : ℕ) (g : ℕ → ℕ) (c e : ℕ) → Declared s C
@@ -129,7 +133,7 @@ module _ (s : Signature) (first : ℕ) (I : State) where
         → k + conceptSteps C ≤ first → In I C (g n) → Chosen s first I g (k + conceptSteps C) (conceptFacts first C n k)
     witness (class A) n k g G c hn hf x = unchanged g _ _ G record { members = (x, tt); equations = tt; edges = tt }
     witness everything n k g G c hn hf x = unchanged g _ _ G facts-none
-    witness (constant a) n k g G c hn hf x = unchanged g _ _ G (equal-meets I g n (first + a) (x ∙ sym (G .constants a c)))
+    witness (constant a) n k g G c hn hf x = unchanged g _ _ G (equal-meets I g n (atNode (first + a)) (x ∙ sym (G .constants a c)))
     witness (both C D) n k g G c hn hf x =
         join-both C D n k g (c .1) hn hf (witness D n (k + conceptSteps C) g G (c .1) (omega arith) (omega arith) (x .1))
         (λ f F y. witness C n k f F (c .0) (omega arith) (omega arith) y) (x .0)
@@ -138,6 +142,7 @@ module _ (s : Signature) (first : ℕ) (I : State) where
         join-common p q n k g (x .0) (c .1) hn hf
         (trail q n (k + pathSteps p) g (x .0) G (c .1) (omega arith) (omega arith) (x .1) (x .2 .1))
         (λ f F y. trail p n k f (x .0) F (c .0) (omega arith) (omega arith) (x .1) y) (x .2 .0)
+    witness (mark m) n k g G c hn hf x = unchanged g _ _ G (equal-meets I g n (ofMark m) x)
 
     trail : (p : Path) (n k : ℕ) (g : ℕ → ℕ) (e : ℕ) → Assigns s first I g → DeclaredPath s p → k + pathSteps p ≤ n
         → k + pathSteps p ≤ first → e < I .size → Leads I p (g n) e → Trail p n k g e

@@ -2,7 +2,7 @@
 -- facts of so many objects.
 use Prim.Native.Nat.{ℕ, zero, suc, _+_, _*_}
 use Rattle.records.specs.declared.schema.Signature.{Signature}
-use Rattle.records.specs.Layout.{querySteps, viewSteps, maxConstants}
+use Rattle.records.specs.Layout.{querySteps, viewSteps, maxConstants, maxMarks}
 
 -- 0 + 1 + .. + n
 abbrev pub tri : ℕ → ℕ
@@ -21,6 +21,7 @@ maxForest = maxNodes + maxNodes * tri viewSteps
 abbrev pub maxCandidate : ℕ
 maxCandidate = maxForest + 1
 
--- each object is in each class at most, and has, beside the query's pairs, one value of each attribute; each constant has a name
+-- each object is in each class at most, and has, beside the query's pairs, one value of each attribute; each constant and each
+-- mark has an object
 abbrev pub mostFacts : Signature → ℕ → ℕ → ℕ
-mostFacts s objects pairs = s .classes * objects + (s .attributes * objects + pairs) + s .constants
+mostFacts s objects pairs = s .classes * objects + (s .attributes * objects + pairs) + s .constants + maxMarks

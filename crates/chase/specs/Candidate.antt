@@ -33,6 +33,7 @@ module _ (S : Schema) (G : Ground) (T : Forest) where
         members = λ A d. has (classesOf S G T d) A;
         pairs = λ P d e. links G P d e || eqb (kid G T P d) (suc e);
         names = λ a. cond (ltb a (S .signature .constants)) (G .constants a) objects;
+        marks = G .marks;
       }
 
   abbrev pub candidateOf : State

@@ -12,4 +12,5 @@ closed F lack u =
       members = F .members;
       pairs = λ P d e. F .pairs P d e || lack P d && eqb e u;
       names = F .names;
+      marks = F .marks;
     }

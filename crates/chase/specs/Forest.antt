@@ -6,7 +6,7 @@ use mathlib.Core.Bool.{Bool, cond, not, _&&_, _||_}
 use mathlib.Core.List.{List, [], _∷_, _++_}
 use lib.Dec.{eqb, ltb}
 use Rattle.records.specs.Schema.{Schema}
-use Rattle.records.specs.Concept.{Direction, forward, backward, Concept, class, everything, constant, both, reached, common, Path, empty, step}
+use Rattle.records.specs.Concept.{Direction, forward, backward, Concept, class, everything, constant, both, reached, common, mark, Path, empty, step}
 use Rattle.chase.specs.Loops.{anyOf, each, upto}
 use Rattle.chase.specs.ClassSet.{full}
 use Rattle.chase.specs.Axioms.{needs, image}
@@ -96,6 +96,7 @@ module _ (S : Schema) (G : Ground) where
     walk (both C D) s l T = walk D s l (walk C s l T)
     walk (reached p) s l T = trek p s l T .0
     walk (common p q) s l T = trek q s l (trek p s l T .0) .0
+    walk (mark k) s l T = T
 
     pub trek : Path → ℕ → List ℕ → Forest → Forest × List ℕ
     trek empty s l T = (T, l)

@@ -7,15 +7,18 @@ use lib.ListN.{getD}
 use Rattle.records.specs.Finite.{count}
 use Rattle.chase.specs.Loops.{upto}
 use Rattle.chase.specs.Facts.{Edge}
-use Rattle.chase.specs.Task.{Task, nodes, startNode, constantNode, asked}
+use Rattle.chase.specs.Task.{Task, nodes, startNode, constantNode, markNode, asked}
 use Rattle.chase.specs.Primary.{Prime, repOf, setOf, primary}
 
--- how many objects; the class set of each; the pairs of the query; the constants' objects; the start
+-- how many objects; the class set of each; the pairs of the query; the constants' objects; the set of the used marks, and the
+-- marks' objects; the start
 pub record Ground : Type 0 where
   pub objects : ℕ
   pub sets : List ℕ
   pub edges : List Edge
   pub constants : ℕ → ℕ
+  pub used : ℕ
+  pub marks : ℕ → ℕ
   pub start : ℕ
 
 -- the class set of object d
@@ -44,6 +47,8 @@ groundOf t x =
       sets = listing (live x) (setOf x) (nodes t);
       edges = map (renumber x) (asked t .edges);
       constants = λ a. objectOf x (constantNode t a);
+      used = t .marks;
+      marks = λ k. objectOf x (markNode t k);
       start = objectOf x (startNode t);
     }
 

@@ -12,8 +12,8 @@ use Rattle.records.specs.Schema.{Schema}
 use Rattle.chase.specs.Loops.{each, upto, settle}
 use Rattle.chase.specs.ClassSet.{place}
 use Rattle.chase.specs.Axioms.{domain, values, isSingle, raise}
-use Rattle.chase.specs.Facts.{Membership, Equation, Edge}
-use Rattle.chase.specs.Task.{Task, nodes, constantNode, asked}
+use Rattle.chase.specs.Facts.{Membership, Edge}
+use Rattle.chase.specs.Task.{Task, nodes, constantNode, asked, Tie, ties}
 
 -- for each node its representative, and a class set, of which that at the representative counts
 pub record Prime : Type 0 where
@@ -46,7 +46,7 @@ merge n m x =
     x)
 
 -- The rules: what the query says ..
-abbrev pub equate : Equation → Prime → Prime
+abbrev pub equate : Tie → Prime → Prime
 equate f x = merge (f .left) (f .right) x
 
 abbrev pub assert : Membership → Prime → Prime
@@ -75,7 +75,7 @@ module _ (S : Schema) where
 -- one round of all rules
 module _ (t : Task) where
   abbrev pub equateAll : Prime → Prime
-  equateAll = each equate (asked t .equations)
+  equateAll = each equate (ties t)
 
   abbrev pub assertAll : Prime → Prime
   assertAll = each assert (asked t .members)

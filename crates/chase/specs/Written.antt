@@ -2,7 +2,8 @@
 use Prim.Native.Nat.{ℕ, zero, suc, _+_}
 use mathlib.Core.Bool.{cond}
 use mathlib.Core.List.{List, [], _∷_, _++_, map}
-use Rattle.records.specs.Layout.{attributeKinds, constantKinds}
+use Rattle.records.specs.Layout.{attributeKinds, constantKinds, markKinds, maxMarks}
+use Rattle.records.specs.Marks.{among}
 use Rattle.records.specs.Schema.{Schema}
 use Rattle.records.specs.Encoding.{fact, stateRecord}
 use Rattle.chase.specs.ClassSet.{has}
@@ -20,6 +21,9 @@ gather (suc n) f = gather n f ++ f n
 abbrev pub nameFact : ℕ → ℕ → ℕ
 nameFact a d = fact (constantKinds + a) d 0
 
+abbrev pub markFact : ℕ → ℕ → ℕ
+markFact k d = fact (markKinds + k) d 0
+
 module _ (S : Schema) (G : Ground) (T : Forest) where
   unfoldable pub classFacts : ℕ → ℕ → List ℕ
   classFacts A d = cond (has (classesOf S G T d) A) (fact A d 0 ∷ []) []
@@ -33,9 +37,19 @@ module _ (S : Schema) (G : Ground) (T : Forest) where
       gather (S .signature .classes) (λ A. gather (objects S G T) (classFacts A))
       ++ gather (S .signature .attributes) (λ P. gather (objects S G T) (pairFacts P))
 
-  -- then the constants
+  unfoldable pub nameFacts : ℕ → List ℕ
+  nameFacts a = nameFact a (G .constants a) ∷ []
+
+  unfoldable pub markFacts : ℕ → List ℕ
+  markFacts k = cond (among (G .used) k) (markFact k (G .marks k) ∷ []) []
+
+  -- then the constants: all that is declared
+  unfoldable pub declaredFacts : List ℕ
+  declaredFacts = objectFacts ++ gather (S .signature .constants) nameFacts
+
+  -- then the used marks
   unfoldable pub facts : List ℕ
-  facts = objectFacts ++ gather (S .signature .constants) (λ a. nameFact a (G .constants a) ∷ [])
+  facts = declaredFacts ++ gather maxMarks markFacts
 
 -- the candidate's record
 unfoldable pub written : Task → List ℕ
