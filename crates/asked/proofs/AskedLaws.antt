@@ -10,12 +10,12 @@ use lib.ListN.{length, getD, take}
 use borrow.Author.Tests.{eqb-true, not-false}
 use Rattle.records.specs.Finite.{count}
 use Rattle.records.specs.Layout.{conceptLayout, sizeAt, entries, querySteps, maxTokens}
-use Rattle.records.specs.SchemaRecord.{signatureOf}
+use Rattle.records.specs.Outcome.{querySignature}
 use Rattle.records.specs.ConceptRecord.{conceptOf}
 use Rattle.records.specs.ConceptRefusal.{steps, refusal-5, refusal-6, AcceptedConcept}
 use Rattle.records.specs.SchemaRefusal.{AcceptedSchema}
 use Rattle.records.proofs.General.BoolLaws.{or-false-left}
-use Rattle.records.proofs.AcceptedLaws.{passes-3, passes-5, passes-6, tokens-few, token-in-range, accepted-concept, accepted-steps, accepted-limit}
+use Rattle.records.proofs.AcceptedLaws.{passes-1, passes-3, passes-5, passes-6, tokens-few, signature-few, token-in-range, accepted-concept, accepted-steps, accepted-limit}
 use Rattle.records.specs.Helpers.Steps.{conceptSteps}
 use Rattle.chase.specs.Facts.{Facts}
 use Rattle.chase.specs.Task.{asked, taskOf}
@@ -35,20 +35,20 @@ adds-says Members F m h = h
 adds-says Equations F m h = h
 adds-says Edges F m h = h
 
-module _ (s q : List ℕ) (legal : AcceptedSchema s) (sound : AcceptedConcept querySteps (signatureOf s) q) where
+module _ (s q : List ℕ) (legal : AcceptedSchema s) (sound : AcceptedConcept querySteps (querySignature s) q) where
   pile : refusal-5 q ≡ false
-  pile = passes-5 querySteps (signatureOf s) q sound
+  pile = passes-5 querySteps (querySignature s) q sound
 
   limits : Limits q
   limits =
       record {
-        few = tokens-few q (passes-3 querySteps (signatureOf s) q sound);
+        few = tokens-few q (passes-3 querySteps (querySignature s) q sound);
         steps = omega (
           arith,
           accepted-steps q pile,
-          accepted-limit q pile querySteps (passes-6 querySteps (signatureOf s) q sound),
+          accepted-limit q pile querySteps (passes-6 querySteps (querySignature s) q sound),
         );
-        named = token-in-range s legal querySteps q sound;
+        named = token-in-range (querySignature s) (signature-few s (passes-1 s legal)) querySteps q sound;
       }
 
   -- the second size is the number of steps
@@ -56,7 +56,7 @@ module _ (s q : List ℕ) (legal : AcceptedSchema s) (sound : AcceptedConcept qu
   unfolding refusal-6 sizeAt
   start-is h =
       h ∙ sym (eqb-true (steps q) (getD q 1 0)
-      (not-false _ (or-false-left _ (ltb querySteps (steps q)) (passes-6 querySteps (signatureOf s) q sound))))
+      (not-false _ (or-false-left _ (ltb querySteps (steps q)) (passes-6 querySteps (querySignature s) q sound))))
       ∙ sym (accepted-steps q pile)
 
   module _ {n a : ℕ} (last : n ≡ entries conceptLayout q) (start : a ≡ getD q 1 0) where
@@ -65,7 +65,7 @@ module _ (s q : List ℕ) (legal : AcceptedSchema s) (sound : AcceptedConcept qu
         let few : a ≤ querySteps = omega (
           arith,
           start-is start,
-          accepted-limit q pile querySteps (passes-6 querySteps (signatureOf s) q sound),
+          accepted-limit q pile querySteps (passes-6 querySteps (querySignature s) q sound),
         ) in
         record {
           limits = limits;

@@ -4,7 +4,7 @@ use mathlib.Core.Bool.{So, false, true≢false, false≢true}
 use mathlib.Core.List.{List}
 use mathlib.Core.Path.{_≡_, refl, ap, subst, _∙_}
 use Rattle.records.specs.declared.token.Token.{Token}
-use Rattle.records.specs.declared.token.Token.the-variants.{Class, Everything, Constant, Both, Empty, Forward, Backward, Reached, Common}
+use Rattle.records.specs.declared.token.Token.the-variants.{Class, Everything, Constant, Both, Empty, Forward, Backward, Reached, Common, Mark}
 use Rattle.records.specs.Concept.{forward, backward}
 use Rattle.records.specs.ConceptRecord.{tokenAt}
 use Rattle.records.specs.ConceptRefusal.{isStep, stepAt}
@@ -25,6 +25,7 @@ module _ (w : List ℕ) where
     step-ends (Backward P) r h = facts-step 0 w e n backward P r .1
     step-ends Reached r h = absurd r
     step-ends Common r h = absurd r
+    step-ends (Mark k) r h = absurd r
 
     empty-ends : (t : Token) → ReadsPath w e t → isStep t ≡ false → endAt w (suc e) n ≡ n
     empty-ends (Class A) r h = absurd r
@@ -36,6 +37,7 @@ module _ (w : List ℕ) where
     empty-ends (Backward P) r h = absurd (true≢false h)
     empty-ends Reached r h = absurd r
     empty-ends Common r h = absurd r
+    empty-ends (Mark k) r h = absurd r
 
   module _ (e n : ℕ) (h : HasPath w e) where
     reads : ReadsPath w (e - 1) (tokenAt w (e - 1))

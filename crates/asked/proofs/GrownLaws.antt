@@ -4,17 +4,21 @@ use native.Mathlib.Numerals.{add-one}
 use native.Mathlib.Omega.{arith}
 use mathlib.Core.List.{List, [], _∷_, _++_, map, append-nil, append-assoc, map-append}
 use mathlib.Core.Path.{_≡_, refl, sym, ap, subst, _∙_}
+use borrow.Author.Tests.{lt-ltb, le-ltb}
 use lib.ListN.{length, take, set, length-set}
 use lib.Seq.{take-suc-set}
 use Rattle.records.specs.Layout.{maxTokens}
 use Rattle.records.specs.Concept.{forward}
-use Rattle.chase.specs.Facts.{Membership, Equation, Edge, Facts, none, member, equal, related, _⊕_}
-use Rattle.primary.specs.Words.{part, memberOf, equationOf, edgeOf}
-use Rattle.primary.proofs.WordLaws.{member-word, equation-word, edge-word}
+use Rattle.chase.specs.Task.{Tie}
+use Rattle.chase.specs.Facts.{Membership, atNode, ofMark, Equation, Edge, Facts, none, member, equal, related, _⊕_}
+use Rattle.records.specs.Layout.{maxMarks}
+use Rattle.chase.specs.Bounds.{maxNodes}
+use Rattle.primary.specs.Words.{part, memberOf, edgeOf}
+use Rattle.primary.proofs.WordLaws.{member-word, tie-word, edge-word}
 use Rattle.asked.specs.declared.words.Kind.{Kind}
 use Rattle.asked.specs.declared.words.Kind.the-variants.{Members, Equations, Edges}
 use Rattle.asked.specs.declared.words.Words.{Words}
-use Rattle.asked.specs.Listed.{listed, pushed, Room, Adds, Grown}
+use Rattle.asked.specs.Listed.{sideOf, equationOf, listed, pushed, Room, Adds, Grown}
 
 -- What is added.
 
@@ -89,6 +93,18 @@ pushed-grown k F x v h a =
 pushed-fact : {A : Type 0} (f : ℕ → A) (l : List ℕ) (v : ℕ) (a : A) → f v ≡ a → map f (l ++ (v ∷ [])) ≡ map f l ++ (a ∷ [])
 pushed-fact f l v a q = map-append f l (v ∷ []) ∙ ap (λ (b : _). map f l ++ (b ∷ [])) q
 
+-- the words of equations
+side-word : (n r : ℕ) → r < part → equationOf (n * part + r) ≡ record { left = n; right = sideOf r }
+side-word n r h = ap (λ (f : Tie). record { left = f .left; right = sideOf (f .right) }) (tie-word n r h)
+
+equation-word : (n m : ℕ) → m < maxNodes → equationOf (n * part + m) ≡ record { left = n; right = atNode m }
+equation-word n m h = side-word n m (omega arith) ∙ rw (lt-ltb m maxNodes h)
+
+mark-word : (n k : ℕ) → k < maxMarks → equationOf (n * part + (maxNodes + k)) ≡ record { left = n; right = ofMark k }
+mark-word n k h =
+    side-word n (maxNodes + k) (omega arith)
+    ∙ rw (le-ltb (maxNodes + k) maxNodes (omega arith)) (ap (λ (j : ℕ). record { left = n; right = ofMark j }) (omega arith))
+
 -- a fact of another kind leaves the list as it was
 pub kept : {k : Kind} {F : Facts} {x : Words} (j : Kind) → Room x → k ≡ j → Lacks j F → Grown k F 0 1 x x
 kept {k} {F} {x} j h q a = record { adds = rw q (adds-lacking j F (listed x) a); fits = omega arith; size = h .size }
@@ -98,9 +114,13 @@ module _ {k : Kind} {x r : Words} (h : Room x) where
   member-grown A n q l e =
       rw (q, e) (pushed-grown Members (member A n) x _ h (pushed-fact memberOf (listed x) _ _ (member-word A n l)))
 
-  pub equation-grown : (n m : ℕ) → k ≡ Equations → m < part → r ≡ pushed x (n * part + m) → Grown k (equal n m) 0 1 x r
+  pub equation-grown : (n m : ℕ) → k ≡ Equations → m < maxNodes → r ≡ pushed x (n * part + m) → Grown k (equal n (atNode m)) 0 1 x r
   equation-grown n m q l e =
-      rw (q, e) (pushed-grown Equations (equal n m) x _ h (pushed-fact equationOf (listed x) _ _ (equation-word n m l)))
+      rw (q, e) (pushed-grown Equations (equal n (atNode m)) x _ h (pushed-fact equationOf (listed x) _ _ (equation-word n m l)))
+
+  pub mark-grown : (n m : ℕ) → k ≡ Equations → m < maxMarks → r ≡ pushed x (n * part + (maxNodes + m)) → Grown k (equal n (ofMark m)) 0 1 x r
+  mark-grown n m q l e =
+      rw (q, e) (pushed-grown Equations (equal n (ofMark m)) x _ h (pushed-fact equationOf (listed x) _ _ (mark-word n m l)))
 
   pub edge-grown : (P n m : ℕ) → k ≡ Edges → n < part → m < part → r ≡ pushed x ((P * part + n) * part + m)
       → Grown k (related forward P n m) 0 1 x r

@@ -6,7 +6,7 @@ use mathlib.Core.Bool.{Bool}
 use mathlib.Core.List.{List}
 use mathlib.Core.Path.{_≡_, sym, subst}
 use Rattle.records.specs.declared.token.Token.{Token}
-use Rattle.records.specs.declared.token.Token.the-variants.{Class, Everything, Constant, Both, Empty, Reached, Common}
+use Rattle.records.specs.declared.token.Token.the-variants.{Class, Everything, Constant, Both, Empty, Reached, Common, Mark}
 use Rattle.records.specs.Concept.{directionOf}
 use Rattle.records.specs.ConceptRecord.{tokenAt}
 use Rattle.records.specs.Helpers.Reading.{startOf, HasConcept, HasPath, stepToken, stepNumber}
@@ -14,9 +14,10 @@ use Rattle.records.specs.Helpers.InRange.{TokenInRange}
 use Rattle.records.proofs.PileLaws.{start-le}
 use Rattle.records.proofs.ReadingLaws.{Reads, ReadsStep, ReadsPath, concept-next, path-next}
 use Rattle.records.proofs.AcceptedLaws.{step-in-range}
-use Rattle.chase.specs.Facts.{Facts, member, equal, related, _⊕_}
+use Rattle.chase.specs.Facts.{Facts, atNode, ofMark, member, equal, related, _⊕_}
 use Rattle.chase.specs.QueryTokens.{endAt}
-use Rattle.chase.proofs.QueryTokenLaws.{facts-class, facts-everything, facts-constant, facts-both, facts-reached, facts-common, facts-empty, facts-step}
+use Rattle.chase.proofs.QueryTokenLaws.{facts-class, facts-everything, facts-constant, facts-mark, facts-both, facts-reached, facts-common, facts-empty, facts-step}
+use Rattle.chase.specs.Bounds.{maxNodes}
 use Rattle.primary.specs.Words.{part}
 use Rattle.asked.specs.declared.words.Kind.{Kind}
 use Rattle.asked.specs.declared.words.Words.{Words}
@@ -49,7 +50,7 @@ module _ {k : Kind} {w : List ℕ} {first at n r : ℕ} {x y : Words} (z : Place
   grown-three g f h = grown-join (grown-join (grown-suc g) (grown-one (startOf w at 1) f)) h
 
   pub common-grown : {p q : ℕ} {u v : Words} → Reads w at Common → p ≡ endAt w r n → q ≡ endAt w at n → PathGrown first w at n k x y
-      → Grown k (equal p q) 0 1 y u
+      → Grown k (equal p (atNode q)) 0 1 y u
       → PathGrown first w r n k u v
       → ConceptGrown first w (suc at) n k x v
   common-grown t p q g f h = grown-as (facts-common first w at n t) (t .1) (grown-three g (rw (p, q, middle) at f) (rw middle at h))
@@ -65,10 +66,10 @@ module _ {k : Kind} {w : List ℕ} {first at n r : ℕ} {x y : Words} (z : Place
 
 -- the parts of those facts
 module _ {w : List ℕ} {first at n : ℕ} {x : Words} (z : Place w first (suc at) n x) where
-  pub left-small : {r p : ℕ} → r ≡ startOf w at 1 → HasPath w (startOf w at 1) → p ≡ endAt w r n → p < part
+  pub left-small : {r p : ℕ} → r ≡ startOf w at 1 → HasPath w (startOf w at 1) → p ≡ endAt w r n → p < maxNodes
   left-small {r} middle h q = omega (arith, q, place-end z {m = r} (omega (arith, middle, start-le w at 1)) (rw middle h))
 
-  pub right-small : {q : ℕ} → HasPath w at → q ≡ endAt w at n → q < part
+  pub right-small : {q : ℕ} → HasPath w at → q ≡ endAt w at n → q < maxNodes
   right-small h q = omega (arith, q, place-end z {m = at} (omega arith) h)
 
   pub token-named : {t : Token} → tokenAt w at ≡ t → TokenInRange t
@@ -86,9 +87,12 @@ module _ {k : Kind} {w : List ℕ} {first at n : ℕ} {x : Words} (z : Place w f
   pub everything-grown : Reads w at Everything → ConceptGrown first w (suc at) n k x x
   everything-grown t = grown-as (facts-everything first w at n t) (t .1) (grown-none k x at (suc at) (z .size) (omega arith))
 
-  pub constant-grown : {a : ℕ} {r : Words} → Reads w at (Constant a) → Grown k (equal n (first + a)) 0 1 x r
+  pub constant-grown : {a : ℕ} {r : Words} → Reads w at (Constant a) → Grown k (equal n (atNode (first + a))) 0 1 x r
       → ConceptGrown first w (suc at) n k x r
   constant-grown {a} t g = grown-as (facts-constant first w at n a t) (t .1) (grown-one at g)
+
+  pub mark-grown : {m : ℕ} {r : Words} → Reads w at (Mark m) → Grown k (equal n (ofMark m)) 0 1 x r → ConceptGrown first w (suc at) n k x r
+  mark-grown {m} t g = grown-as (facts-mark first w at n m t) (t .1) (grown-one at g)
 
   pub reached-grown : {r : Words} → Reads w at Reached → PathGrown first w at n k x r → ConceptGrown first w (suc at) n k x r
   reached-grown t g = grown-as (facts-reached first w at n t) (t .1) (grown-late g)

@@ -3,4 +3,6 @@ mod GrownLaws
 mod EndLaws
 mod PlaceLaws
 mod ItemLaws
+mod TieLaws
 pub mod AskedLaws
+mod TiedLaws

@@ -1,14 +1,24 @@
 -- Words that stand for facts of one kind, and how a function adds the facts that it was asked for.
-use Prim.Native.Nat.{ℕ, _+_, _≤_, _<_}
+use Prim.Native.Nat.{ℕ, _+_, _-_, _/_, _%_, _≤_, _<_}
+use mathlib.Core.Bool.{cond}
 use mathlib.Core.List.{List, _++_, map}
 use mathlib.Core.Path.{_≡_}
+use lib.Dec.{ltb}
 use lib.ListN.{length, take, set}
 use Rattle.records.specs.Layout.{maxTokens}
-use Rattle.chase.specs.Facts.{Facts}
-use Rattle.primary.specs.Words.{memberOf, equationOf, edgeOf}
+use Rattle.chase.specs.Bounds.{maxNodes}
+use Rattle.chase.specs.Facts.{Side, atNode, ofMark, Equation, Facts}
+use Rattle.primary.specs.Words.{part, memberOf, edgeOf}
 use Rattle.asked.specs.declared.words.Kind.{Kind}
 use Rattle.asked.specs.declared.words.Kind.the-variants.{Members, Equations, Edges}
 use Rattle.asked.specs.declared.words.Words.{Words}
+
+-- An equation as a word: its left node, and a node or, above all nodes, a mark.
+abbrev pub sideOf : ℕ → Side
+sideOf r = cond (ltb r maxNodes) (atNode r) (ofMark (r - maxNodes))
+
+abbrev pub equationOf : ℕ → Equation
+equationOf w = record { left = w / part; right = sideOf (w % part) }
 
 -- the words in use
 abbrev pub listed : Words → List ℕ

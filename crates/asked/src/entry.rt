@@ -6,7 +6,7 @@ use records::layout::word;
 use records::token::MAX_TOKENS;
 use records::token::tokens;
 ghost use Rattle.records.specs.Layout.{querySteps};
-ghost use Rattle.records.specs.SchemaRecord.{signatureOf};
+ghost use Rattle.records.specs.Outcome.{querySignature};
 ghost use Rattle.records.specs.SchemaRefusal.{AcceptedSchema};
 ghost use Rattle.records.specs.ConceptRefusal.{AcceptedConcept};
 ghost use Rattle.asked.specs.Answer.{Asked};
@@ -14,7 +14,7 @@ ghost use Rattle.asked.specs.Answer.{Asked};
 // `schema` is the record whose names the query uses; the promises name it, and the code has no need of it.
 pub fn asked(schema: &[u16], query: &[u16], kind: Kind) -> Words
     requires { ⌜ AcceptedSchema (now schema) ⌝ }
-    requires { ⌜ AcceptedConcept querySteps (signatureOf (now schema)) (now query) ⌝ }
+    requires { ⌜ AcceptedConcept querySteps (querySignature (now schema)) (now query) ⌝ }
     ensures { λ r. ⌜ Asked (now (schema .entry)) (now (query .entry)) kind r ⌝ }
 {
     // The steps' nodes come first: the start's number is how many there are.

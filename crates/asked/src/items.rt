@@ -4,6 +4,7 @@ use crate::words::Kind;
 use crate::words::Words;
 use crate::words::add_edge;
 use crate::words::add_equation;
+use crate::words::add_mark;
 use crate::words::add_member;
 use records::reading::start_of;
 use records::reading::step_number;
@@ -40,6 +41,7 @@ pub fn concept(
         Token::Both => both(query, kind, first, at, node, list),
         Token::Reached => path(query, kind, first, at, node, list),
         Token::Common => common(query, kind, first, at, node, list),
+        Token::Mark(k) => add_mark(kind, k, node, list),
         // A path's tokens end no concept.
         Token::Empty | Token::Forward(_) | Token::Backward(_) => list,
     }
@@ -102,7 +104,8 @@ fn path(query: &[u16], kind: Kind, first: usize, end: usize, node: usize, list: 
         | Token::Constant(_)
         | Token::Both
         | Token::Reached
-        | Token::Common => list,
+        | Token::Common
+        | Token::Mark(_) => list,
     }
 }
 

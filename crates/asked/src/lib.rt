@@ -2,4 +2,5 @@
 // are read from the right, so of two operands the right one's facts come first.
 pub mod entry;
 pub mod items;
+pub mod ties;
 pub mod words;

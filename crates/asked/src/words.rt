@@ -1,12 +1,15 @@
 // A list of words with room for the facts of a query, and the three kinds of fact that it may hold. A fact of another kind
 // leaves it as it was.
+use primary::rules::MAX_NODES;
 use primary::rules::PART;
 use records::layout::narrow;
 use records::token::MAX_TOKENS;
 ghost use mathlib.Core.Path.{_≡_};
 ghost use Prim.Native.Nat.{_<_, _^_};
 ghost use Rattle.records.specs.Concept.{forward, directionOf};
-ghost use Rattle.chase.specs.Facts.{member, equal, related};
+ghost use Rattle.records.specs.Layout.{maxMarks};
+ghost use Rattle.chase.specs.Bounds.{maxNodes};
+ghost use Rattle.chase.specs.Facts.{atNode, ofMark, member, equal, related};
 ghost use Rattle.primary.specs.Words.{part};
 ghost use Rattle.asked.specs.Listed.{Room, pushed, Grown};
 
@@ -51,12 +54,25 @@ pub fn add_member(kind: Kind, class: usize, node: usize, list: Words) -> Words
 // The two nodes are one object.
 pub fn add_equation(kind: Kind, left: usize, right: usize, list: Words) -> Words
     requires { ⌜ Room list ⌝ }
-    requires { ⌜ (left < part) × (right < part) ⌝ }
-    ensures { λ r. ⌜ Grown kind (equal left right) 0 1 list r ⌝ }
+    requires { ⌜ (left < part) × (right < maxNodes) ⌝ }
+    ensures { λ r. ⌜ Grown kind (equal left (atNode right)) 0 1 list r ⌝ }
 {
     match kind {
         Kind::Members => list,
         Kind::Equations => list.push(left * PART + right),
+        Kind::Edges => list,
+    }
+}
+
+// The mark stands at the node.
+pub fn add_mark(kind: Kind, mark: usize, node: usize, list: Words) -> Words
+    requires { ⌜ Room list ⌝ }
+    requires { ⌜ (mark < maxMarks) × (node < part) ⌝ }
+    ensures { λ r. ⌜ Grown kind (equal node (ofMark mark)) 0 1 list r ⌝ }
+{
+    match kind {
+        Kind::Members => list,
+        Kind::Equations => list.push(node * PART + (MAX_NODES + mark)),
         Kind::Edges => list,
     }
 }

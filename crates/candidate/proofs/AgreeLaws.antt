@@ -1,32 +1,36 @@
 -- The facts depend on the ground through its objects, class sets and edges alone. So those of the arrays are those of the
--- task whose ground and made part the arrays hold (facts-are).
-use Prim.Native.Nat.{ℕ, zero, suc, _+_, _≤_}
+-- task whose ground and made part the arrays hold (facts-are, marks-are).
+use Prim.Native.Nat.{ℕ, zero, suc, _+_, _≤_, _<_}
 use native.Mathlib.Omega.{arith}
 use mathlib.Core.Bool.{Bool, cond}
 use mathlib.Core.List.{List, [], _∷_, _++_}
 use mathlib.Core.Path.{_≡_, sym, ap, ap₂, _∙_}
 use lib.Dec.{ltb}
-use Rattle.records.specs.Layout.{querySteps, viewSteps, maxConstants, maxObjects, attributeKinds}
+use Rattle.records.specs.Layout.{querySteps, viewSteps, maxConstants, maxMarks, maxObjects, attributeKinds}
+use Rattle.records.specs.declared.schema.Signature.{Signature}
 use Rattle.records.specs.Schema.{Schema}
 use Rattle.records.specs.SchemaRecord.{schemaOf}
 use Rattle.records.specs.Encoding.{fact}
 use Rattle.chase.specs.ClassSet.{has}
-use Rattle.chase.specs.Ground.{Ground, ground}
+use Rattle.records.specs.Marks.{allowing, among}
+use Rattle.chase.specs.Ground.{Ground, groundOf, ground}
 use Rattle.chase.specs.Primary.{primary}
 use Rattle.records.specs.Helpers.Steps.{conceptSteps}
 use Rattle.chase.specs.Task.{Task, WellFormed}
 use Rattle.chase.specs.Forest.{Forest}
 use Rattle.chase.specs.Candidate.{objects, forest}
-use Rattle.chase.specs.Written.{gather, nameFact, classFacts, pairFacts, objectFacts, facts}
+use Rattle.chase.specs.Written.{gather, nameFact, markFact, classFacts, pairFacts, objectFacts, nameFacts as named, markFacts as marked, declaredFacts}
 use Rattle.chase.proofs.Answers.{is-small}
-use Rattle.chase.proofs.GatherLaws.{gather-each}
+use Rattle.chase.proofs.GatherLaws.{gather-each, gather-below}
 use Rattle.primary.specs.Formed.{prime}
+use Rattle.primary.specs.Words.{nodeIn}
 use Rattle.ground.specs.Agrees.{Agrees}
+use Rattle.ground.specs.Numbers.{objectIn}
 use Rattle.ground.specs.Objects.{groundIn, forestIn}
 use Rattle.ground.proofs.GroundLaws.{constant-object}
 use Rattle.forest.proofs.SameLaws.{size-same, kid-same, classesOf-same, links-same, lacks-same, objects-same}
 use Rattle.candidate.specs.Writing.{factIf}
-use Rattle.candidate.specs.Facts.{valueFacts, linkFact, linkFacts, valueAt, classRow, nameFacts, factsIn}
+use Rattle.candidate.specs.Facts.{valueFacts, linkFact, linkFacts, valueAt, classRow, nameFacts, markFacts, factsIn}
 use Rattle.candidate.proofs.PairLaws.{pair-parts}
 
 class-same : (G H : Ground) → G .objects ≡ H .objects → G .sets ≡ H .sets → (S : Schema) (T : Forest) (A d : ℕ)
@@ -83,11 +87,19 @@ module _ (t : Task) (schema edges words : List ℕ) (g n : ℕ) (is : schemaOf s
   objects-few formed q v c = omega (arith, objects-are, is-small t formed q v c)
 
   pub facts-are : (reps sets : List ℕ) → prime reps sets ≡ primary t
-      → factsIn schema reps (suc (conceptSteps (t .query))) edges g n words ≡ facts (t .schema) (ground t) (forest t)
-  unfolding facts
+      → factsIn schema reps (suc (conceptSteps (t .query))) edges g n words ≡ declaredFacts (t .schema) (ground t) (forest t)
+  unfolding declaredFacts named
   facts-are reps sets q =
       ap₂ _++_
       (ap₂ (λ (S : Schema) (T : Forest). objectFacts S (groundIn g words edges) T) is made
       ∙ facts-same (groundIn g words edges) (ground t) same (t .schema) (forest t))
       (ap (λ (S : Schema). nameFacts reps (suc (conceptSteps (t .query))) (S .signature .constants)) is
       ∙ gather-each _ _ (λ a. ap (λ (d : ℕ). nameFact a d ∷ []) (constant-object t reps sets q a)) (t .schema .signature .constants))
+
+-- those of the used marks
+pub marks-are : (t : Task) (reps nodes : List ℕ) (used : ℕ) (s : Signature) → used ≡ t .marks
+    → ((k : ℕ) → k < maxMarks → objectIn reps (nodeIn nodes k) ≡ ground t .marks k)
+    → markFacts (allowing used s) reps nodes ≡ gather maxMarks (marked (t .schema) (ground t) (forest t))
+unfolding marked ground groundOf
+marks-are t reps nodes used s u are =
+    gather-below _ _ maxMarks (λ k h. ap₂ (λ (m d : ℕ). factIf (among m k) (markFact k d)) u (are k h))

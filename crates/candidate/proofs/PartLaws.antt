@@ -18,11 +18,11 @@ use Rattle.ground.specs.Objects.{groundIn, forestIn}
 use Rattle.forest.proofs.ObjectLaws.{size-laid}
 use Rattle.candidate.specs.declared.number.Sizes.{Sizes}
 use Rattle.candidate.specs.Writing.{Room, Wrote}
-use Rattle.candidate.specs.Facts.{classRow, pairRow, membersIn, pairsIn, nameFacts, factsIn}
+use Rattle.candidate.specs.Facts.{classRow, pairRow, membersIn, pairsIn, nameFacts, markFacts, factsIn}
 use Rattle.candidate.specs.Ready.{Ready, Sized}
 use Rattle.candidate.proofs.WriteLaws.{room-first, room-next, room-as, wrote-as, wrote-then}
 use Rattle.candidate.proofs.SearchLaws.{objects-bound}
-use Rattle.candidate.proofs.BoundLaws.{facts-fit}
+use Rattle.candidate.proofs.BoundLaws.{facts-fit, marks-few}
 use Rattle.candidate.proofs.AgreeLaws.{members-same}
 
 module _ (schema reps : List ℕ) (first : ℕ) (edges words : List ℕ) (z : Sizes) (ready : Ready schema reps first edges words z)
@@ -86,6 +86,21 @@ module _ (schema reps : List ℕ) (first : ℕ) (edges words : List ℕ) (z : Si
           facts-fit schema reps edges words first (z .ground) (z .made),
           ap (λ (m : ℕ). mostFacts (S .signature) m (length edges)) (ready .number),
         ))
+
+    -- after these there is room for a fact of each mark
+    pub marks-room : (r : ℕ) (after : List ℕ) → Wrote 0 (factsIn schema reps first edges (z .ground) (z .made) words) out r after
+        → (u : Signature) (nodes : List ℕ) → Room r (markFacts u reps nodes) after
+    unfolding Room
+    marks-room r after a u nodes =
+        omega (
+          arith,
+          fits,
+          facts-fit schema reps edges words first (z .ground) (z .made),
+          ap (λ (m : ℕ). mostFacts (S .signature) m (length edges)) (ready .number),
+          a .end,
+          a .size,
+          marks-few u reps nodes,
+        )
 
     pub members-room : Room 0 members out
     members-room = room-first 0 members pairs out (room-first 0 (members ++ pairs) names out room)

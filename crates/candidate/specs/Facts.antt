@@ -5,17 +5,21 @@ use mathlib.Core.Bool.{Bool, cond}
 use mathlib.Core.List.{List, [], _∷_, _++_, map}
 use lib.Dec.{ltb}
 use Rattle.records.specs.Finite.{any}
-use Rattle.records.specs.Layout.{attributeKinds}
+use Rattle.records.specs.Layout.{attributeKinds, maxMarks}
+use Rattle.records.specs.declared.schema.Signature.{Signature}
+use Rattle.records.specs.Marks.{allowing, allows}
 use Rattle.records.specs.Schema.{Schema}
 use Rattle.records.specs.SchemaRecord.{schemaOf}
 use Rattle.records.specs.Encoding.{fact}
 use Rattle.chase.specs.Ground.{Ground}
 use Rattle.chase.specs.Forest.{Forest, size, kid, push, lacks}
 use Rattle.chase.specs.Candidate.{links, objects}
-use Rattle.chase.specs.Written.{gather, nameFact, classFacts, pairFacts, objectFacts}
+use Rattle.chase.specs.Written.{gather, nameFact, markFact, classFacts, pairFacts, objectFacts}
+use Rattle.primary.specs.Words.{nodeIn}
 use Rattle.ground.specs.Objects.{groundIn, forestIn}
 use Rattle.ground.specs.Numbers.{objectIn}
 use Rattle.candidate.specs.declared.number.Sizes.{Sizes}
+use Rattle.candidate.specs.declared.marks.Shape.{Shape}
 use Rattle.candidate.specs.Writing.{factIf}
 
 -- the pair of P from d to the object that a number stands for, if any
@@ -61,8 +65,21 @@ nameRow reps first a = nameFact a (objectIn reps (first + a)) ∷ []
 abbrev pub nameFacts : List ℕ → ℕ → ℕ → List ℕ
 nameFacts reps first n = gather n (nameRow reps first)
 
--- all facts
+-- the object of a mark, if it is used, and of all; the signature allows those that are used
+abbrev pub markRow : Signature → List ℕ → List ℕ → ℕ → List ℕ
+markRow s reps nodes k = factIf (allows s k) (markFact k (objectIn reps (nodeIn nodes k)))
+
+abbrev pub markFacts : Signature → List ℕ → List ℕ → List ℕ
+markFacts s reps nodes = gather maxMarks (markRow s reps nodes)
+
+-- all facts of what is declared
 abbrev pub factsIn : List ℕ → List ℕ → ℕ → List ℕ → ℕ → ℕ → List ℕ → List ℕ
 factsIn schema reps first edges g n objects =
     objectFacts (schemaOf schema) (groundIn g objects edges) (forestIn g n objects)
     ++ nameFacts reps first (schemaOf schema .signature .constants)
+
+-- all facts
+abbrev pub allFacts : List ℕ → List ℕ → ℕ → List ℕ → List ℕ → Shape → List ℕ
+allFacts schema reps first edges objects z =
+    factsIn schema reps first edges (z .sizes .ground) (z .sizes .made) objects
+    ++ markFacts (allowing (z .marks .used) (schemaOf schema .signature)) reps (z .marks .nodes)

@@ -8,6 +8,7 @@ use classes::sets::meets;
 use forest::objects::OBJECTS;
 use forest::objects::classes_at;
 use records::layout::wide;
+use records::marks::MAX_MARKS;
 use records::schema::Signature;
 use records::schema::signature_of;
 ghost use Prim.Native.Nat.{_≤_};
@@ -101,5 +102,5 @@ pub fn most_facts(s: Signature, objects: usize, pairs: usize) -> usize
     requires { ⌜ (s .classes ≤ maxClasses) × (s .attributes ≤ maxAttributes) × (s .constants ≤ maxConstants) × (objects ≤ maxObjects) × (pairs ≤ querySteps) ⌝ }
     ensures { λ r. ⌜ (r ≡ mostFacts s objects pairs) × (r ≤ maxFacts) ⌝ }
 {
-    s.classes * objects + (s.attributes * objects + pairs) + s.constants
+    s.classes * objects + (s.attributes * objects + pairs) + s.constants + MAX_MARKS
 }

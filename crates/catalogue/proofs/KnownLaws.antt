@@ -1,6 +1,6 @@
 -- What is known of the pairs: it stays true as it grows, and a pair may follow from it.
 use Prim.Native.Nat.{ℕ, _-_, _^_, _≤_, _<_}
-use mathlib.Core.Bool.{true, false, So, _&&_, _||_, false≢true}
+use mathlib.Core.Bool.{false, So, _&&_, _||_, false≢true}
 use mathlib.Core.List.{List}
 use mathlib.Core.Logic.{_⊎_, ⊎-elim}
 use mathlib.Core.Path.{_≡_, refl, sym, ap, _∙_}
@@ -12,7 +12,7 @@ use lib.Dec.{eqb}
 use lib.ListN.{length, getD, set, replicate, length-set, length-replicate, getD-replicate}
 use lib.Seq.{getD-set-same}
 use Rattle.records.specs.Finite.{bit}
-use Rattle.records.specs.Layout.{querySteps, viewSteps, maxViews}
+use Rattle.records.specs.Layout.{querySteps, viewSteps, maxViews, queryMarks}
 use Rattle.records.specs.Concept.{Concept}
 use Rattle.records.specs.Subsumption.{Open, Held}
 use Rattle.records.specs.SchemaRecord.{signatureOf, schemaOf}
@@ -24,7 +24,10 @@ use Rattle.records.proofs.General.BitLaws.{word-or, word-zero, word-one}
 use Rattle.records.proofs.General.FiniteLaws.{any-found}
 use Rattle.records.proofs.General.ListLaws.{set-elim}
 use Rattle.records.proofs.SubsumptionLaws.{held-self, held-through, open-through, held-not-open}
+use Rattle.records.specs.ConceptRefusal.{AcceptedConcept}
+use Rattle.records.specs.Outcome.{querySignature}
 use Rattle.records.proofs.AcceptedLaws.{accepted-wider}
+use Rattle.records.proofs.MarkLaws.{accepted-allowing}
 use Rattle.records.proofs.CatalogueLaws.{laid-of, accepted-layout, accepted-view}
 use Rattle.decide.specs.Holding.{Tells}
 use Rattle.catalogue.specs.Helpers.{inRow, meets, Joined, Alone, refutes, settled, Accepted, Known, Grown}
@@ -50,13 +53,18 @@ module _ (schema w : List ℕ) where
   pub few-views : Accepted schema w → n ≤ maxViews
   few-views a = laid-of w (accepted-layout (signatureOf schema) w (a .catalogue-accepted)) .few
 
+  accepted-at : Accepted schema w → (i : ℕ) → i < n → AcceptedConcept viewSteps (signatureOf schema) (viewAt w i)
+  unfolding signatureOf
+  accepted-at a i h = accepted-view (signatureOf schema) w (a .catalogue-accepted) i h
+
   pub triple-of : Accepted schema w → (i j : ℕ) → i < n → j < n → Triple schema (viewAt w i) (viewAt w j)
   triple-of a i j h k =
-      let ok = accepted-view (signatureOf schema) w (a .catalogue-accepted) in
       record {
         schema-accepted = a .schema-accepted;
-        query-accepted = accepted-wider viewSteps (signatureOf schema) (viewAt w i) (ok i h) querySteps (omega arith);
-        view-accepted = ok j k;
+        query-accepted =
+            accepted-wider viewSteps (querySignature schema) (viewAt w i)
+            (accepted-allowing viewSteps schema (viewAt w i) queryMarks (accepted-at a i h)) querySteps (omega arith);
+        view-accepted = accepted-at a j k;
       }
 
   -- Known of each view by itself, and of nothing else.

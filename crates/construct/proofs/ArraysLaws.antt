@@ -2,8 +2,8 @@
 -- and each is the model's.
 use Prim.Native.Nat.{ℕ, suc, _-_, _≤_}
 use mathlib.Core.Bool.{Bool, false, So, false≢true}
-use mathlib.Core.List.{List, _++_, map}
-use mathlib.Core.Path.{_≡_, refl, sym, ap, subst, _∙_}
+use mathlib.Core.List.{List, [], _++_, map}
+use mathlib.Core.Path.{_≡_, refl, sym, ap, ap₂, subst, _∙_}
 use native.Mathlib.Omega.{arith}
 use lib.ListN.{length, drop, length-append, length-drop, length-map}
 use lib.Seq.{take-at}
@@ -14,11 +14,13 @@ use Rattle.records.specs.ConceptRecord.{conceptOf}
 use Rattle.records.proofs.General.FiniteLaws.{count-le}
 use Rattle.records.specs.Helpers.Steps.{conceptSteps}
 use Rattle.records.specs.Helpers.Triple.{Triple}
-use Rattle.chase.specs.Task.{startNode, nodes, asked, taskOf}
+use Rattle.chase.specs.Task.{startNode, nodes, asked, markNode, taskOf}
 use Rattle.chase.specs.Primary.{primary, clash}
 use Rattle.chase.specs.Ground.{live, ground}
 use Rattle.chase.specs.Candidate.{objects, forest}
-use Rattle.chase.proofs.AcceptanceLaws.{Within, accepted-within}
+use Rattle.chase.specs.Written.{facts}
+use Rattle.chase.proofs.AcceptanceLaws.{Within, accepted-formed, accepted-within}
+use Rattle.chase.proofs.PrimaryLaws.{mark-inside}
 use Rattle.chase.proofs.PairLaws.{asked-edges}
 use Rattle.primary.specs.Formed.{prime, Becomes}
 use Rattle.chase.specs.Bounds.{maxNodes}
@@ -31,17 +33,19 @@ use Rattle.ground.specs.Numbers.{objectIn, renumberIn}
 use Rattle.ground.specs.Objects.{groundIn, forestIn}
 use Rattle.ground.specs.Agrees.{Agrees}
 use Rattle.ground.specs.Laying.{Grounds}
-use Rattle.ground.proofs.GroundLaws.{ground-agrees, start-object, grounds-laid, sets-fit}
+use Rattle.ground.proofs.GroundLaws.{ground-agrees, mark-object, start-object, grounds-laid, sets-fit}
 use Rattle.forest.specs.Kept.{Kept}
 use Rattle.forest.specs.Walking.{Walks}
 use Rattle.forest.proofs.SameLaws.{same-after, walks-same}
 use Rattle.candidate.specs.Facts.{factsIn}
 use Rattle.candidate.specs.Ready.{Ready}
 use Rattle.candidate.specs.declared.number.Sizes.{Sizes}
-use Rattle.candidate.proofs.AgreeLaws.{objects-are, objects-few, facts-are}
+use Rattle.candidate.specs.declared.marks.Marks.{Marks}
+use Rattle.candidate.specs.declared.marks.Shape.{Shape}
+use Rattle.candidate.proofs.AgreeLaws.{objects-are, objects-few, facts-are, marks-are}
 use Rattle.construct.specs.declared.Made.{Made}
-use Rattle.construct.specs.Arrays.{constantsFrom, Arrays, Built}
-use Rattle.construct.specs.Closed.{Pair, Closed, Laid}
+use Rattle.construct.specs.Arrays.{constantsFrom, listing, Arrays, Marked, Built}
+use Rattle.construct.specs.Closed.{Pair, Closed, MarksOf, Laid}
 
 pub pair-of : {s q v : List ℕ} → Triple s q v → Pair s q
 pair-of ok = record { schema-accepted = ok .schema-accepted; query-accepted = ok .query-accepted }
@@ -74,6 +78,21 @@ module _ (s q v : List ℕ) (ok : Triple s q v) (r l : List ℕ)
       → b ≡ clashesIn k r first → b ≡ clash (taskOf s q v)
   unfolding taskOf schemaOf
   clashes-are first k e f b h = h ∙ rw (e ∙ first-is, f) (clash-is (taskOf s q v) r l prime-is)
+
+  -- the marks are the task's
+  pub marked-by : (m : Marks) → MarksOf s q m → Marked (taskOf s q v) r m
+  unfolding taskOf asked markNode
+  marked-by m a =
+      record {
+        used = a .used;
+        nodes =
+            record {
+              room = a .room;
+              inside = λ k h.
+                  omega (arith, a .nodes k h, mark-inside (queryTask s q) (accepted-formed s q [] (ok .schema-accepted) (ok .query-accepted)) k, z .size);
+            };
+        objects = λ k h. ap (objectIn r) (a .nodes k h) ∙ mark-object (taskOf s q v) r l prime-is k;
+      }
 
 -- the ground is laid, and the edges are renumbered
 pub laid-by : {s q r l es fs words : List ℕ} {g : ℕ} → Closed s q r l es → Grounds (prime r l) (length r) g words
@@ -167,23 +186,34 @@ module _ (s q v : List ℕ) (ok : Triple s q v) (r l es words : List ℕ) (g : �
 
 -- where there is a clash there is no candidate
 pub built-clash : (s q v r words : List ℕ) (m : Made) → So (clash (taskOf s q v)) → So (m .clashes) → m .edges .count ≤ maxTokens
-    → length (m .edges .words) ≡ maxTokens → Built s q v r words m
-built-clash s q v r words m c b count room =
+    → length (m .edges .words) ≡ maxTokens → Marked (taskOf s q v) r (m .shape .marks) → Built s q v r words m
+built-clash s q v r words m c b count room marks =
     record {
       clash-is = b ∙ sym c;
       arrays = λ a. absurd (false≢true (sym a ∙ c));
       count = count;
       room = room;
+      marks = marks;
     }
 
 -- the edges in an array whose first words they are
-pub built-open : (s q v r words : List ℕ) (z : Sizes) (es old : List ℕ) (k : ℕ) → clash (taskOf s q v) ≡ false
-    → Arrays (taskOf s q v) s r es words z → k ≡ length es → k ≤ maxTokens → length old ≡ maxTokens
-    → Built s q v r words (record { clashes = false; edges = record { count = k; words = es ++ drop k old }; sizes = z })
-built-open s q v r words z es old k apart a is count room =
+pub built-open : (s q v r words : List ℕ) (z : Sizes) (m : Marks) (es old : List ℕ) (k : ℕ) → clash (taskOf s q v) ≡ false
+    → Arrays (taskOf s q v) s r es words z → Marked (taskOf s q v) r m → k ≡ length es → k ≤ maxTokens → length old ≡ maxTokens
+    → Built s q v r words
+    (record { clashes = false; edges = record { count = k; words = es ++ drop k old }; shape = record { sizes = z; marks = m } })
+built-open s q v r words z m es old k apart a marks is count room =
     record {
       clash-is = sym apart;
       arrays = λ _. subst (λ (l : List ℕ). Arrays (taskOf s q v) s r l words z) (sym (take-at es (drop k old) k (sym is))) a;
       count = count;
       room = omega (arith, length-append es (drop k old), length-drop k old, is, count, room);
+      marks = marks;
     }
+
+-- all facts are those of the task's candidate
+pub listing-is : (s q v r es words : List ℕ) (z : Shape) → Arrays (taskOf s q v) s r es words (z .sizes) → Marked (taskOf s q v) r (z .marks)
+    → listing s r es words z ≡ facts (taskOf s q v .schema) (ground (taskOf s q v)) (forest (taskOf s q v))
+unfolding facts
+listing-is s q v r es words z a m =
+    ap₂ _++_ (a .facts-are)
+    (marks-are (taskOf s q v) r (z .marks .nodes) (z .marks .used) (schemaOf s .signature) (m .used) (m .objects))

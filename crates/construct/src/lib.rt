@@ -1,8 +1,12 @@
 // The candidate of an accepted schema, query and view: the query's facts are read and closed under the axioms, the
 // representatives numbered, values made as the view asks for them, and the objects counted. Each part is the model's (crate chase).
 use asked::entry::asked;
+use asked::ties::Tied;
+use asked::ties::of_equations;
 use asked::words::Kind;
 use asked::words::Words;
+use candidate::marks::Marks;
+use candidate::marks::Shape;
 use candidate::number::Sizes;
 use candidate::number::count_objects;
 use forest::objects::OBJECTS;
@@ -10,10 +14,10 @@ use forest::walk::walks;
 use ground::lay::lay;
 use ground::number::renumber;
 use primary::clash::clashes;
+use primary::rules::MAX_NODES;
 use primary::settle::close;
-use records::concept::Query;
 use records::layout::word;
-use records::schema::MAX_CONSTANTS;
+use records::marks::used;
 use records::schema::signature_of;
 ghost use mathlib.Core.Path.{_≡_};
 ghost use Prim.Native.Nat.{_≤_};
@@ -24,21 +28,24 @@ ghost use Rattle.chase.specs.Task.{taskOf, nodes as nodesOf};
 ghost use Rattle.chase.specs.Primary.{primary};
 ghost use Rattle.primary.specs.Formed.{Becomes};
 ghost use Rattle.primary.specs.Asked.{queryTask};
-ghost use Rattle.asked.specs.declared.words.Kind.the-variants.{Members, Equations, Edges};
+ghost use Rattle.asked.specs.declared.words.Kind.the-variants.{Members, Edges};
 ghost use Rattle.asked.specs.Listed.{listed as wordsIn};
-ghost use Rattle.asked.specs.Answer.{Asked};
+ghost use Rattle.asked.specs.Answer.{Asked, IsTied};
 ghost use Rattle.construct.specs.Arrays.{Arrays, Built};
-ghost use Rattle.construct.specs.Closed.{Pair, Nodes, Closed};
+ghost use Rattle.construct.specs.Closed.{Pair, Nodes, Closed, MarksOf};
 
-// The nodes of the largest query: its steps, the start and the constants.
-pub const MAX_NODES: usize = Query::STEPS + 1 + MAX_CONSTANTS;
-
-// Whether two constants are one object, so that there is no candidate; otherwise the query's edges between objects, and how many
-// objects there are.
+// Whether two constants are one object, so that there is no candidate; otherwise the query's edges between objects, how many
+// objects there are, and the marks.
 pub struct Made {
     pub clashes: bool,
     pub edges: Words,
-    pub sizes: Sizes,
+    pub shape: Shape,
+}
+
+// What is kept of the query's facts: its edges, and its marks.
+struct Read {
+    edges: Words,
+    marks: Marks,
 }
 
 pub fn nodes(schema: &[u16], query: &[u16]) -> usize
@@ -49,42 +56,50 @@ pub fn nodes(schema: &[u16], query: &[u16]) -> usize
     word(query, 1) + 1 + s.constants
 }
 
-// The primary part of the query, from its facts of the three kinds.
+// The primary part of the query, from its facts of the three kinds, the equations as ties.
 fn close_by(
     schema: &[u16],
     query: &[u16],
     members: Words,
-    equations: Words,
+    tied: Tied,
     edges: Words,
     reps: &mut [u32],
     sets: &mut [u32],
 )
     requires { ⌜ Pair (now schema) (now query) × Nodes (now schema) (now query) (now reps) (now sets) ⌝ }
     requires { ⌜ Asked (now schema) (now query) Members members ⌝ }
-    requires { ⌜ Asked (now schema) (now query) Equations equations ⌝ }
+    requires { ⌜ IsTied (now schema) (now query) tied ⌝ }
     requires { ⌜ Asked (now schema) (now query) Edges edges ⌝ }
     ensures { λ _. ⌜ Becomes (nodesOf (queryTask (now (schema .entry)) (now (query .entry)))) (now (reps .exit)) (now (sets .exit)) (primary (queryTask (now (schema .entry)) (now (query .entry)))) ⌝ }
 {
+    let ties = tied.ties;
     let ms = members.words;
-    let qs = equations.words;
+    let qs = ties.words;
     let es = edges.words;
     let m = members.count;
-    let q = equations.count;
+    let q = ties.count;
     let e = edges.count;
     close(schema, query, &ms[..m], &qs[..q], &es[..e], reps, sets);
 }
 
-// The primary part of the query. Returns the query's edges.
-fn closed(schema: &[u16], query: &[u16], reps: &mut [u32], sets: &mut [u32]) -> Words
+// The primary part of the query. Returns its edges and marks.
+fn closed(schema: &[u16], query: &[u16], reps: &mut [u32], sets: &mut [u32]) -> Read
     requires { ⌜ Pair (now schema) (now query) × Nodes (now schema) (now query) (now reps) (now sets) ⌝ }
-    ensures closed { λ r. ⌜ Closed (now (schema .entry)) (now (query .entry)) (now (reps .exit)) (now (sets .exit)) (wordsIn r) ⌝ }
-    ensures room { λ r. ⌜ (r .count ≤ maxTokens) × (length (r .words) ≡ maxTokens) ⌝ }
+    ensures closed { λ r. ⌜ Closed (now (schema .entry)) (now (query .entry)) (now (reps .exit)) (now (sets .exit)) (wordsIn (r .edges)) ⌝ }
+    ensures room { λ r. ⌜ (r .edges .count ≤ maxTokens) × (length (r .edges .words) ≡ maxTokens) ⌝ }
+    ensures marks { λ r. ⌜ MarksOf (now (schema .entry)) (now (query .entry)) (r .marks) ⌝ }
 {
     let members = asked(schema, query, Kind::Members);
     let equations = asked(schema, query, Kind::Equations);
     let edges = asked(schema, query, Kind::Edges);
-    close_by(schema, query, members, equations, edges, reps, sets);
-    edges
+    let tied = of_equations(schema, query, equations);
+    close_by(schema, query, members, tied, edges, reps, sets);
+    let nodes = tied.nodes;
+    let marks = Marks {
+        used: used(query),
+        nodes,
+    };
+    Read { edges, marks }
 }
 
 // The candidate's objects, from the closed primary part. `query` is what the promises name; the code has no need of it.
@@ -124,17 +139,22 @@ fn from_nodes(
     requires { ⌜ Triple (now schema) (now query) (now view) × Nodes (now schema) (now query) (now reps) (now sets) × (length (now objects) ≡ maxObjects) ⌝ }
     ensures { λ r. ⌜ Built (now (schema .entry)) (now (query .entry)) (now (view .entry)) (now (reps .exit)) (now (objects .exit)) r ⌝ }
 {
-    let edges = closed(schema, query, reps, sets);
+    let read = closed(schema, query, reps, sets);
+    let edges = read.edges;
+    let marks = read.marks;
     let s = signature_of(schema);
     let first = reps.len() - s.constants;
     if clashes(s, reps, first) {
         return Made {
             clashes: true,
             edges,
-            sizes: Sizes {
-                ground: 0,
-                made: 0,
-                total: 0,
+            shape: Shape {
+                sizes: Sizes {
+                    ground: 0,
+                    made: 0,
+                    total: 0,
+                },
+                marks,
             },
         };
     }
@@ -152,7 +172,7 @@ fn from_nodes(
     Made {
         clashes: false,
         edges: Words { count, words },
-        sizes,
+        shape: Shape { sizes, marks },
     }
 }
 

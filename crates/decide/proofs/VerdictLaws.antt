@@ -9,7 +9,10 @@ use native.Mathlib.Omega.{arith}
 use borrow.Author.Tests.{le-ltb}
 use lib.Dec.{ltb}
 use lib.ListN.{length, drop}
-use Rattle.records.specs.Layout.{maxStateWords}
+use Rattle.records.specs.Layout.{viewSteps, maxStateWords}
+use Rattle.records.specs.Marks.{allowing, usedMarks}
+use Rattle.records.specs.Outcome.{choiceSignature}
+use Rattle.records.proofs.MarkLaws.{accepted-allowing}
 use Rattle.records.specs.Schema.{Schema}
 use Rattle.records.specs.Concept.{Concept}
 use Rattle.records.specs.Encoding.{stateRecord}
@@ -23,13 +26,15 @@ use Rattle.records.proofs.General.BoolLaws.{not-both}
 use Rattle.records.proofs.ExecutableLaws.{isIn-iff}
 use Rattle.chase.specs.Task.{Task, taskOf}
 use Rattle.chase.specs.Primary.{clash}
-use Rattle.chase.specs.Candidate.{first}
-use Rattle.chase.specs.Written.{written}
+use Rattle.chase.specs.Ground.{ground}
+use Rattle.chase.specs.Candidate.{forest, first}
+use Rattle.chase.specs.Written.{facts, written}
 use Rattle.chase.proofs.Judged.{clash-judged, written-fits, start-small, start-in, start-out}
 use Rattle.chase.proofs.AcceptanceLaws.{Within, accepted-within}
 use Rattle.chase.proofs.WrittenLaws.{facts-few, written-length, written-size}
-use Rattle.candidate.specs.declared.number.Sizes.{Sizes}
-use Rattle.construct.specs.Arrays.{startIn, listing, Arrays}
+use Rattle.candidate.specs.declared.marks.Shape.{Shape}
+use Rattle.construct.specs.Arrays.{startIn, listing, Arrays, Marked}
+use Rattle.construct.proofs.ArraysLaws.{listing-is}
 use Rattle.decide.specs.declared.DecideAnswer.the-variants as answers
 use Rattle.decide.specs.Decision.{Shown, Verdict}
 use Rattle.decide.specs.Start.{startInside, startAnswer, startWords, Judged, Listable, Told}
@@ -91,13 +96,13 @@ module _ (schema query view : List ℕ) (ok : Triple schema query view) where
   clash-is-held = clash-judged schema query view (ok .schema-accepted) (ok .query-accepted) (ok .view-accepted)
 
   -- by the start of the candidate in arrays
-  module _ (apart : clash (taskOf schema query view) ≡ false) (reps edges words : List ℕ) (z : Sizes)
-      (a : Arrays (taskOf schema query view) schema reps edges words z) where
+  module _ (apart : clash (taskOf schema query view) ≡ false) (reps edges words : List ℕ) (z : Shape)
+      (a : Arrays (taskOf schema query view) schema reps edges words (z .sizes)) (m : Marked (taskOf schema query view) reps (z .marks)) where
     abbrev t : Task
     t = taskOf schema query view
 
     abbrev n : ℕ
-    n = z .total
+    n = z .sizes .total
 
     abbrev start : ℕ
     start = startIn schema reps
@@ -108,29 +113,36 @@ module _ (schema query view : List ℕ) (ok : Triple schema query view) where
     within : Within t
     within = accepted-within schema query view (ok .schema-accepted) (ok .query-accepted) (ok .view-accepted)
 
+    list-is : list ≡ facts (t .schema) (ground t) (forest t)
+    list-is = listing-is schema query view reps edges words z a m
+
     record-is : stateRecord n list ≡ written t
     unfolding written
-    record-is = ap₂ stateRecord (a .size) (a .facts-are)
+    record-is = ap₂ stateRecord (a .size) list-is
 
-    accepted : AcceptedState (signatureOf schema) (stateRecord n list)
+    accepted : AcceptedState (choiceSignature schema query) (stateRecord n list)
     accepted =
-        subst (AcceptedState (signatureOf schema)) (sym record-is)
+        subst (AcceptedState (choiceSignature schema query)) (sym record-is)
         (written-fits schema query view (ok .schema-accepted) (ok .query-accepted) (ok .view-accepted) apart)
 
-    judged : Judged view n start list (signatureOf schema)
+    used-is : z .marks .used ≡ usedMarks query
+    unfolding taskOf
+    used-is = m .used
+
+    judged : Judged view n start list (allowing (z .marks .used) (signatureOf schema))
     judged =
         record {
-          view-accepted = ok .view-accepted;
-          state-accepted = accepted;
+          view-accepted = accepted-allowing viewSteps schema view (z .marks .used) (ok .view-accepted);
+          state-accepted = subst (λ (u : ℕ). AcceptedState (allowing u (signatureOf schema)) (stateRecord n list)) (sym used-is) accepted;
           inside =
               rw (record-is, a .start)
               (start-small schema query view (ok .schema-accepted) (ok .query-accepted) (ok .view-accepted) apart);
           objects = omega (arith, a .ready .small);
-          few = rw (a .facts-are) (facts-few t within);
+          few = rw list-is (facts-few t within);
         }
 
     pub listable : Listable schema view reps edges words z
-    listable = record { ready = a .ready; few = a .few; begins = a .begins; judged = judged }
+    listable = record { ready = a .ready; marks = m .nodes; few = a .few; begins = a .begins; judged = judged }
 
     inside-held : So (startInside view n start list) → Held (schemaOf schema) (conceptOf query) (conceptOf view)
     unfolding startInside

@@ -7,11 +7,11 @@ use mathlib.Core.Path.{_≡_}
 use lib.ListN.{length, drop}
 use Rattle.records.specs.Layout.{maxObjects, maxStateWords}
 use Rattle.records.specs.Subsumption.{Counterexample, Open, Held}
-use Rattle.records.specs.SchemaRecord.{signatureOf, schemaOf}
+use Rattle.records.specs.SchemaRecord.{schemaOf}
 use Rattle.records.specs.ConceptRecord.{conceptOf}
 use Rattle.records.specs.StateRecord.{stateOf}
 use Rattle.records.specs.StateRefusal.{AcceptedState}
-use Rattle.records.specs.Outcome.{firstRefusal, schemaRefusal, queryRefusal, viewRefusal, lentRefusal}
+use Rattle.records.specs.Outcome.{choiceSignature, firstRefusal, schemaRefusal, queryRefusal, viewRefusal, lentRefusal}
 use Rattle.decide.specs.declared.DecideAnswer.{DecideAnswer}
 use Rattle.decide.specs.declared.DecideAnswer.the-variants as answers
 
@@ -20,13 +20,13 @@ decideRefusals schema query view lent =
     schemaRefusal schema ∷ queryRefusal schema query ∷ viewRefusal schema view ∷ lentRefusal maxStateWords lent ∷ []
 
 module _ (schema query view lent : List ℕ) where
-  -- The words begin with the accepted record of a legal state of n objects, in which object d is in the query and outside the
-  -- view. Words after the record are unaltered.
+  -- The words begin with the record of a legal state of n objects, accepted with the marks that the query uses, in which object d is
+  -- in the query and outside the view. Words after the record are unaltered.
   pub record Shown (n d : ℕ) (words : List ℕ) : Type 0 where
     pub written : List ℕ
     pub begins : words ≡ written ++ drop (length written) lent
     pub room : length written ≤ length lent
-    pub accepted : AcceptedState (signatureOf schema) written
+    pub accepted : AcceptedState (choiceSignature schema query) written
     pub objects : stateOf written .size ≡ n
     pub small : n ≤ maxObjects
     pub counterexample : Counterexample (schemaOf schema) (conceptOf query) (conceptOf view) (stateOf written) d

@@ -8,6 +8,7 @@ use lib.Dec.{ltb}
 use lib.ListN.{length, drop}
 use Rattle.records.specs.declared.schema.Signature.{Signature}
 use Rattle.records.specs.Layout.{querySteps, viewSteps, maxFacts, maxStateWords}
+use Rattle.records.specs.Marks.{allowing}
 use Rattle.records.specs.Executable.{isIn}
 use Rattle.records.specs.Encoding.{stateRecord}
 use Rattle.records.specs.Subsumption.{Open, Held}
@@ -16,8 +17,8 @@ use Rattle.records.specs.ConceptRecord.{conceptOf}
 use Rattle.records.specs.StateRecord.{stateOf}
 use Rattle.records.specs.ConceptRefusal.{AcceptedConcept}
 use Rattle.records.specs.StateRefusal.{AcceptedState}
-use Rattle.candidate.specs.declared.number.Sizes.{Sizes}
-use Rattle.candidate.specs.Ready.{Ready}
+use Rattle.candidate.specs.declared.marks.Shape.{Shape}
+use Rattle.candidate.specs.Ready.{Ready, NodesIn}
 use Rattle.construct.specs.Arrays.{constantsFrom, startIn, listing}
 use Rattle.decide.specs.declared.DecideAnswer.{DecideAnswer}
 use Rattle.decide.specs.declared.DecideAnswer.the-variants as answers
@@ -44,11 +45,13 @@ module _ (view : List ℕ) (n start : ℕ) (facts : List ℕ) where
     pub few : length facts ≤ maxFacts
 
 -- the candidate in arrays can be listed, and its facts judged
-pub record Listable (schema view reps edges words : List ℕ) (z : Sizes) : Type 0 where
-  pub ready : Ready schema reps (constantsFrom schema reps) edges words z
+pub record Listable (schema view reps edges words : List ℕ) (z : Shape) : Type 0 where
+  pub ready : Ready schema reps (constantsFrom schema reps) edges words (z .sizes)
+  pub marks : NodesIn (length reps) (z .marks .nodes)
   pub few : length edges ≤ querySteps
   pub begins : 0 < constantsFrom schema reps
-  pub judged : Judged view (z .total) (startIn schema reps) (listing schema reps edges words z) (signatureOf schema)
+  pub judged :
+      Judged view (z .sizes .total) (startIn schema reps) (listing schema reps edges words z) (allowing (z .marks .used) (signatureOf schema))
 
 -- held or open is said, each exactly when it is so
 pub record Told (schema query view : List ℕ) (answer : DecideAnswer) : Type 0 where

@@ -4,13 +4,14 @@ use crate::start::FEW;
 use crate::start::SOME;
 use crate::start::answer_by;
 use candidate::facts::facts;
-use candidate::number::Sizes;
+use candidate::marks::Shape;
 use candidate::number::most_facts;
-use construct::MAX_NODES;
 use construct::candidate;
 use construct::nodes;
 use forest::objects::OBJECTS;
 use ground::number::object_of;
+use primary::rules::MAX_NODES;
+use records::marks::allow;
 use records::schema::signature_of;
 use records::state::MAX_FACTS;
 ghost use mathlib.Core.Path.{_≡_};
@@ -19,7 +20,6 @@ ghost use lib.ListN.{length};
 ghost use Rattle.records.specs.Layout.{maxStateWords};
 ghost use Rattle.records.specs.Helpers.Triple.{Triple};
 ghost use Rattle.chase.specs.Task.{nodes as nodesOf};
-ghost use Rattle.chase.specs.Primary.{clash};
 ghost use Rattle.primary.specs.Asked.{queryTask};
 ghost use Rattle.construct.specs.Arrays.{startIn, listing};
 ghost use Rattle.decide.specs.Decision.{Verdict};
@@ -32,29 +32,31 @@ fn answer_in(
     reps: &[u32],
     edges: &[u16],
     objects: &[u64; OBJECTS],
-    sizes: Sizes,
+    shape: Shape,
     lent: &mut [u16],
 ) -> DecideAnswer
-    requires { ⌜ Listable (now schema) (now view) (now reps) (now edges) (now objects) sizes ⌝ }
-    ensures answered { λ r. ⌜ r ≡ startAnswer (now (view .entry)) (sizes .total) (startIn (now (schema .entry)) (now (reps .entry))) (listing (now (schema .entry)) (now (reps .entry)) (now (edges .entry)) (now (objects .entry)) sizes) ⌝ }
-    ensures words { λ _. ⌜ now (lent .exit) ≡ startWords (now (view .entry)) (sizes .total) (startIn (now (schema .entry)) (now (reps .entry))) (listing (now (schema .entry)) (now (reps .entry)) (now (edges .entry)) (now (objects .entry)) sizes) (now (lent .entry)) ⌝ }
+    requires { ⌜ Listable (now schema) (now view) (now reps) (now edges) (now objects) shape ⌝ }
+    ensures answered { λ r. ⌜ r ≡ startAnswer (now (view .entry)) (shape .sizes .total) (startIn (now (schema .entry)) (now (reps .entry))) (listing (now (schema .entry)) (now (reps .entry)) (now (edges .entry)) (now (objects .entry)) shape) ⌝ }
+    ensures words { λ _. ⌜ now (lent .exit) ≡ startWords (now (view .entry)) (shape .sizes .total) (startIn (now (schema .entry)) (now (reps .entry))) (listing (now (schema .entry)) (now (reps .entry)) (now (edges .entry)) (now (objects .entry)) shape) (now (lent .entry)) ⌝ }
 {
-    let s = signature_of(schema);
+    let marks = shape.marks;
+    let sizes = shape.sizes;
+    let s = allow(signature_of(schema), marks.used);
     let first = reps.len() - s.constants;
     let start = object_of(reps, first - 1);
     let most = most_facts(s, sizes.total, edges.len());
     if most <= FEW {
         let mut list = [0u32; FEW];
-        let n = facts(schema, reps, first, edges, objects, sizes, &mut list);
+        let n = facts(schema, reps, first, edges, objects, shape, &mut list);
         return answer_by(s, view, sizes.total, start, &list[..n], lent);
     }
     if most <= SOME {
         let mut list = [0u32; SOME];
-        let n = facts(schema, reps, first, edges, objects, sizes, &mut list);
+        let n = facts(schema, reps, first, edges, objects, shape, &mut list);
         return answer_by(s, view, sizes.total, start, &list[..n], lent);
     }
     let mut list = [0u32; MAX_FACTS];
-    let n = facts(schema, reps, first, edges, objects, sizes, &mut list);
+    let n = facts(schema, reps, first, edges, objects, shape, &mut list);
     answer_by(s, view, sizes.total, start, &list[..n], lent)
 }
 
@@ -83,7 +85,7 @@ fn answer_of(
         reps,
         &edges[..count],
         &objects,
-        made.sizes,
+        made.shape,
         lent,
     )
 }

@@ -31,6 +31,8 @@ ground-kept g objects others edges e =
       sets = map classesIn l;
       edges = map edgeOf edges;
       constants = λ a. 0;
+      used = 0;
+      marks = λ k. 0;
       start = 0;
     })
     e

@@ -8,7 +8,7 @@ use lib.Dec.{eqb, ltb}
 use lib.ListN.{getD, take}
 use Rattle.records.specs.Finite.{any}
 use Rattle.records.specs.Schema.{Schema}
-use Rattle.records.specs.Concept.{Direction, forward, backward, Concept, class, everything, constant, both, reached, common, Path, empty, step}
+use Rattle.records.specs.Concept.{Direction, forward, backward, Concept, class, everything, constant, both, reached, common, mark, Path, empty, step}
 use Rattle.chase.specs.Loops.{anyOf, each, upto}
 use Rattle.chase.specs.ClassSet.{full}
 use Rattle.chase.specs.Axioms.{needs, image}
@@ -85,6 +85,7 @@ module _ {G H : Ground} (same : Agrees G H) where
       walk-same (common p q) s l T =
           ap (λ (x : Forest × List ℕ). x .0) (trek-same q s l (trek S G p s l T .0))
           ∙ ap (λ (x : Forest × List ℕ). trek S H q s l (x .0) .0) (trek-same p s l T)
+      walk-same (mark k) s l T = refl
 
       trek-same : (p : Path) (s : ℕ) (l : List ℕ) (T : Forest) → trek S G p s l T ≡ trek S H p s l T
       trek-same empty s l T = refl

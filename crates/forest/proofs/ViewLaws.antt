@@ -8,17 +8,17 @@ use types.Run.{OneOf, miss}
 use denote.Enum.Declared.{tagOf}
 use Rattle.records.proofs.token.Token.{the-type}
 use Rattle.records.specs.declared.token.Token.{Token}
-use Rattle.records.specs.declared.token.Token.the-variants.{Class, Everything, Constant, Both, Empty, Forward, Backward, Reached, Common}
+use Rattle.records.specs.declared.token.Token.the-variants.{Class, Everything, Constant, Both, Empty, Forward, Backward, Reached, Common, Mark}
 use Rattle.records.specs.Layout.{conceptLayout, entries, viewSteps, maxAttributes}
 use Rattle.records.specs.Schema.{Schema}
 use Rattle.records.specs.SchemaRecord.{signatureOf}
-use Rattle.records.specs.Concept.{directionOf, Concept, class, everything, constant}
+use Rattle.records.specs.Concept.{directionOf, Concept, class, everything, constant, mark}
 use Rattle.records.specs.Helpers.Reading.{stepToken, conceptAt}
 use Rattle.records.specs.Helpers.InRange.{TokenInRange}
 use Rattle.records.specs.ConceptRecord.{tokenAt}
 use Rattle.records.specs.SchemaRefusal.{AcceptedSchema}
 use Rattle.records.specs.ConceptRefusal.{AcceptedConcept}
-use Rattle.records.proofs.AcceptedLaws.{passes-3, tokens-few, token-in-range, step-in-range}
+use Rattle.records.proofs.AcceptedLaws.{passes-1, passes-3, tokens-few, signature-few, token-in-range, step-in-range}
 use Rattle.chase.specs.Ground.{Ground}
 use Rattle.chase.specs.Forest.{Forest, walk}
 use Rattle.records.proofs.ReadingLaws.{Reads}
@@ -32,11 +32,11 @@ module _ (schema view : List ℕ) (ok : AcceptedConcept viewSteps (signatureOf s
       → tokenAt view i ≡ stepToken (directionOf back) P
       → P < maxAttributes
   step-attribute legal i P back h is =
-      step-in-range (directionOf back) (subst TokenInRange is (token-in-range schema legal viewSteps view ok i h))
+      step-in-range (directionOf back) (subst TokenInRange is (token-in-range (signatureOf schema) (signature-few schema (passes-1 schema legal)) viewSteps view ok i h))
 
 -- the tokens at which nothing is made, by their places in the enum
 abbrev pub leaf-tags : List ℕ
-leaf-tags = 0 ∷ 1 ∷ 2 ∷ []
+leaf-tags = 0 ∷ 1 ∷ 2 ∷ 9 ∷ []
 
 module _ (S : Schema) (G : Ground) (w : List ℕ) (e s : ℕ) (l : List ℕ) (T : Forest) where
   walk-as : (C : Concept) → conceptAt w (suc e) ≡ C → walk S G (conceptAt w (suc e)) s l T ≡ walk S G C s l T
@@ -52,3 +52,4 @@ module _ (S : Schema) (G : Ground) (w : List ℕ) (e s : ℕ) (l : List ℕ) (T 
   leaf-walk (Backward P) k r = absurd r
   leaf-walk Reached k r = absurd (miss leaf-tags 7 tt k)
   leaf-walk Common k r = absurd (miss leaf-tags 8 tt k)
+  leaf-walk (Mark k) j r = walk-as (mark k) (r .0)

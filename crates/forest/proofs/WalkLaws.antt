@@ -9,7 +9,7 @@ use types.Run.{OneOf}
 use denote.Enum.Declared.{tagOf}
 use Rattle.records.proofs.token.Token.{the-type}
 use Rattle.records.specs.declared.token.Token.the-variants.{Both, Empty, Reached, Common}
-use Rattle.records.specs.Concept.{Concept, class, everything, constant, both, reached, common, Path, empty, step}
+use Rattle.records.specs.Concept.{Concept, class, everything, constant, both, reached, common, mark, Path, empty, step}
 use Rattle.records.specs.Layout.{viewSteps, maxAttributes, maxObjects}
 use Rattle.records.specs.Schema.{Schema}
 use Rattle.records.specs.SchemaRecord.{schemaOf}
@@ -43,6 +43,7 @@ module _ (S : Schema) (G : Ground) where
     walk-more (both C D) s l T = omega (arith, walk-more C s l T, walk-more D s l (walk S G C s l T))
     walk-more (reached p) s l T = trek-more p s l T
     walk-more (common p q) s l T = omega (arith, trek-more p s l T, trek-more q s l (trek S G p s l T .0))
+    walk-more (mark k) s l T = omega arith
 
     trek-more : (p : Path) (s : ℕ) (l : List ℕ) (T : Forest) → size G T ≤ size G (trek S G p s l T .0)
     trek-more empty s l T = omega arith

@@ -41,7 +41,7 @@ fn walk(
     let at = end - 1;
     match token_at(view, at) {
         // Nothing is made.
-        Token::Class(_) | Token::Everything | Token::Constant(_) => here.size,
+        Token::Class(_) | Token::Everything | Token::Constant(_) | Token::Mark(_) => here.size,
         Token::Both => both(schema, view, edges, root, at, here, objects),
         Token::Reached => {
             let there = trek(schema, view, edges, root, at, here, objects);
@@ -130,7 +130,8 @@ fn trek(
         | Token::Constant(_)
         | Token::Both
         | Token::Reached
-        | Token::Common => here,
+        | Token::Common
+        | Token::Mark(_) => here,
     }
 }
 

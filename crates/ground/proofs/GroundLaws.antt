@@ -10,7 +10,7 @@ use lib.Seq.{getD-take, length-take-le}
 use Rattle.records.specs.Finite.{count}
 use Rattle.records.specs.Layout.{maxClasses}
 use Rattle.chase.specs.Facts.{Edge}
-use Rattle.chase.specs.Task.{Task, WellFormed, nodes, startNode, constantNode, asked}
+use Rattle.chase.specs.Task.{Task, WellFormed, nodes, startNode, constantNode, markNode, asked}
 use Rattle.chase.specs.Primary.{Prime, repOf, setOf, primary}
 use Rattle.chase.specs.Ground.{setAt, live, objectOf, listing, renumber, groundOf, ground}
 use Rattle.chase.proofs.Answers.{ground-is}
@@ -53,6 +53,11 @@ module _ (t : Task) (r s : List ℕ) (is : prime r s ≡ primary t) where
   pub constant-object : (a : ℕ) → objectIn r (constantNode t a) ≡ ground t .constants a
   unfolding ground groundOf objectOf live repOf
   constant-object a = ap (λ (x : Prime). objectOf x (constantNode t a)) is
+
+  -- the objects of the marks
+  pub mark-object : (k : ℕ) → objectIn r (markNode t k) ≡ ground t .marks k
+  unfolding ground groundOf objectOf live repOf
+  mark-object k = ap (λ (x : Prime). objectOf x (markNode t k)) is
 
   -- the object of the start
   pub start-object : objectIn r (startNode t) ≡ ground t .start

@@ -44,7 +44,7 @@ grownBy T (w ∷ l) = grownBy (grow T (makerIn w) (attributeIn w) (classesIn w))
 unfoldable pub forestIn : ℕ → ℕ → List ℕ → Forest
 forestIn g n objects = grownBy bare (drop g (take n objects))
 
--- the ground of which the first g objects and the edges are given; its constants and start are of no account
+-- the ground of which the first g objects and the edges are given; its constants, marks and start are of no account
 abbrev pub groundIn : ℕ → List ℕ → List ℕ → Ground
 groundIn g objects edges =
     record {
@@ -52,6 +52,8 @@ groundIn g objects edges =
       sets = map classesIn (take g objects);
       edges = map edgeOf edges;
       constants = λ a. 0;
+      used = 0;
+      marks = λ k. 0;
       start = 0;
     }
 

@@ -7,25 +7,26 @@ use mathlib.Core.Logic.{_≢_}
 use mathlib.Core.Path.{_≡_, refl, sym, ap, subst, _∙_}
 use lib.ListN.{length, getD}
 use Rattle.records.specs.Layout.{querySteps}
-use Rattle.records.specs.SchemaRecord.{signatureOf, schemaOf}
+use Rattle.records.specs.SchemaRecord.{schemaOf}
+use Rattle.records.specs.Outcome.{querySignature}
 use Rattle.records.specs.SchemaRefusal.{AcceptedSchema}
 use Rattle.records.specs.ConceptRefusal.{AcceptedConcept}
-use Rattle.records.proofs.AcceptedLaws.{passes-1, passes-2, passes-4, passes-5, passes-6, accepted-limit}
+use Rattle.records.proofs.AcceptedLaws.{passes-1, passes-5, passes-6, accepted-limit}
 use Rattle.classes.specs.Domains.{DomainTable}
-use Rattle.chase.specs.Task.{Task, WellFormed, nodes, asked, taskOf}
+use Rattle.chase.specs.Task.{Task, WellFormed, nodes, asked, markNode, ties, taskOf}
 use Rattle.chase.specs.Primary.{Prime, repOf, pass, weight, begin, bound, settled, primary}
 use Rattle.records.proofs.General.AllLaws.{All, all-unmapped, all-getD}
 use Rattle.chase.proofs.AcceptanceLaws.{accepted-signature, accepted-formed}
 use Rattle.chase.proofs.LoopLaws.{grows-le, still}
 use Rattle.chase.proofs.PrimeLaws.{Ok, weight-bound}
-use Rattle.chase.proofs.PrimaryLaws.{within, pass-grows, begin-ok, settled-next, settled-stop}
+use Rattle.chase.proofs.PrimaryLaws.{within, ties-inside, pass-grows, begin-ok, settled-next, settled-stop}
 use Rattle.primary.specs.Formed.{prime, Formed, Becomes}
 use Rattle.chase.specs.Bounds.{maxNodes}
-use Rattle.primary.specs.Words.{memberOf, equationOf, edgeOf, FactsIn}
+use Rattle.primary.specs.Words.{memberOf, tieOf, edgeOf, FactsIn}
 use Rattle.primary.specs.Pass.{passOn}
 use Rattle.primary.specs.Asked.{queryTask, Asks}
 
-words-in : {A : Type 0} (X : A → Type 0) (f : ℕ → A) (ws : List ℕ) (l : List A) → map f ws ≡ l → All X l → (i : ℕ)
+pub words-in : {A : Type 0} (X : A → Type 0) (f : ℕ → A) (ws : List ℕ) (l : List A) → map f ws ≡ l → All X l → (i : ℕ)
     → i < length ws → X (f (getD ws i 0))
 words-in X f ws l e h = all-getD (λ w. X (f w)) ws (all-unmapped X f ws (subst (All X) (sym e) h))
 
@@ -73,20 +74,19 @@ ok-formed t r s ok =
       inside = λ i h. subst (λ (n : ℕ). getD r i 0 < n) (sym (ok .reps)) (ok .inside i (subst (λ (n : ℕ). i < n) (ok .reps) h));
     }
 
-pub nodes-few : (s q : List ℕ) → AcceptedSchema s → AcceptedConcept querySteps (signatureOf s) q → nodes (queryTask s q) ≤ maxNodes
+pub nodes-few : (s q : List ℕ) → AcceptedSchema s → AcceptedConcept querySteps (querySignature s) q → nodes (queryTask s q) ≤ maxNodes
 unfolding taskOf schemaOf
 nodes-few s q legal sound =
     omega (
       arith,
       accepted-signature s (passes-1 s legal),
-      accepted-limit q (passes-5 querySteps (signatureOf s) q sound) querySteps (passes-6 querySteps (signatureOf s) q sound),
+      accepted-limit q (passes-5 querySteps (querySignature s) q sound) querySteps (passes-6 querySteps (querySignature s) q sound),
     )
 
 module _ (s q ms qs es : List ℕ) (asks : Asks s q ms qs es) where
   pub asks-formed : WellFormed (queryTask s q)
   asks-formed =
-      accepted-formed s q [] (passes-2 s (asks .legal)) (passes-4 querySteps (signatureOf s) q (asks .sound))
-      (passes-5 querySteps (signatureOf s) q (asks .sound))
+      accepted-formed s q [] (asks .legal) (asks .sound)
 
   pub asks-facts : FactsIn (nodes (queryTask s q)) ms qs es
   unfolding taskOf schemaOf
@@ -97,16 +97,16 @@ module _ (s q ms qs es : List ℕ) (asks : Asks s q ms qs es) where
         members = λ i h.
             let k = words-in (λ m. (m .class < schemaOf s .signature .classes) × (m .node < n)) memberOf ms _ (asks .classes) (w .members) i h in
             (omega (arith, k .0, accepted-signature s (passes-1 s (asks .legal))), k .1);
-        equations = words-in (λ m. (m .left < n) × (m .right < n)) equationOf qs _ (asks .equal) (w .equations);
+        ties = words-in (λ m. (m .left < n) × (m .right < n)) tieOf qs _ (asks .tied) (ties-inside (queryTask s q) asks-formed);
         edges = λ i h.
             let k = words-in (λ m. (m .origin < n) × (m .target < n)) edgeOf es _ (asks .related) (w .edges) i h in
             record { origin = k .0; target = k .1 };
       }
 
   pub pass-is : (n : ℕ) (x : Prime) → n ≡ nodes (queryTask s q)
-      → passOn (schemaOf s) (map memberOf ms) (map equationOf qs) (map edgeOf es) n x ≡ pass (queryTask s q) x
+      → passOn (schemaOf s) (map memberOf ms) (map tieOf qs) (map edgeOf es) n x ≡ pass (queryTask s q) x
   unfolding passOn taskOf
-  pass-is n x h = rw (asks .classes, asks .equal, asks .related, h)
+  pass-is n x h = rw (asks .classes, asks .tied, asks .related, h)
 
   -- What the functions need of a part in order, and what a pass leaves.
   module _ (r l : List ℕ) (ok : Ok (queryTask s q) (prime r l)) where
@@ -119,7 +119,7 @@ module _ (s q ms qs es : List ℕ) (asks : Asks s q ms qs es) where
 
     abbrev pub Passed : List ℕ → List ℕ → Type 0
     Passed r′ l′ =
-        Becomes (length r) r′ l′ (passOn (schemaOf s) (map memberOf ms) (map equationOf qs) (map edgeOf es) (length r) (prime r l))
+        Becomes (length r) r′ l′ (passOn (schemaOf s) (map memberOf ms) (map tieOf qs) (map edgeOf es) (length r) (prime r l))
 
     pub passed-is : (r′ l′ : List ℕ) → Passed r′ l′ → prime r′ l′ ≡ pass (queryTask s q) (prime r l)
     passed-is r′ l′ b = b .value ∙ pass-is (length r) (prime r l) (ok .reps)
@@ -130,5 +130,5 @@ module _ (s q ms qs es : List ℕ) (asks : Asks s q ms qs es) where
 
 -- the view has no part in it
 pub primary-view : (s q v : List ℕ) → primary (taskOf s q v) ≡ primary (queryTask s q)
-unfolding primary settled begin asked taskOf
+unfolding primary settled begin asked markNode ties taskOf
 primary-view s q v = refl

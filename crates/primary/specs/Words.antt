@@ -1,22 +1,28 @@
--- The query's facts as words of parts below 32: of a membership the class and the node, of an equation the two nodes, of an
+-- The query's facts as words of parts below 32: of a membership the class and the node, of a tie the two nodes, of an
 -- edge the attribute, the origin and the target.
-use Prim.Native.Nat.{ℕ, _/_, _%_, _<_}
+use Prim.Native.Nat.{ℕ, _+_, _/_, _%_, _<_}
 use mathlib.Core.List.{List}
 use lib.ListN.{length, getD}
 use Rattle.records.specs.Layout.{maxClasses}
 use Rattle.records.specs.Schema.{Schema}
-use Rattle.chase.specs.Facts.{Membership, Equation, Edge}
+use Rattle.chase.specs.Bounds.{maxNodes}
+use Rattle.chase.specs.Facts.{Membership, Edge}
+use Rattle.chase.specs.Task.{Tie}
 use Rattle.chase.specs.Primary.{Prime, typeOrigin, typeTarget, unify}
 use Rattle.chase.specs.Loops.{each}
 
 abbrev pub part : ℕ
 part = 32
 
+-- the node of mark k in a table of nodes for each number of a part
+abbrev pub nodeIn : List ℕ → ℕ → ℕ
+nodeIn nodes k = getD nodes (maxNodes + k) 0
+
 abbrev pub memberOf : ℕ → Membership
 memberOf w = record { class = w / part; node = w % part }
 
-abbrev pub equationOf : ℕ → Equation
-equationOf w = record { left = w / part; right = w % part }
+abbrev pub tieOf : ℕ → Tie
+tieOf w = record { left = w / part; right = w % part }
 
 abbrev pub edgeOf : ℕ → Edge
 edgeOf w = record { attribute = w / part / part; origin = w / part % part; target = w % part }
@@ -25,8 +31,8 @@ edgeOf w = record { attribute = w / part / part; origin = w / part % part; targe
 abbrev pub MembersIn : ℕ → List ℕ → Type 0
 MembersIn n l = (i : ℕ) → i < length l → (memberOf (getD l i 0) .class < maxClasses) × (memberOf (getD l i 0) .node < n)
 
-abbrev pub EquationsIn : ℕ → List ℕ → Type 0
-EquationsIn n l = (i : ℕ) → i < length l → (equationOf (getD l i 0) .left < n) × (equationOf (getD l i 0) .right < n)
+abbrev pub TiesIn : ℕ → List ℕ → Type 0
+TiesIn n l = (i : ℕ) → i < length l → (tieOf (getD l i 0) .left < n) × (tieOf (getD l i 0) .right < n)
 
 pub record EdgeIn (n w : ℕ) : Type 0 where
   pub origin : edgeOf w .origin < n
@@ -45,5 +51,5 @@ unifyRow S l e = each (unify S e) l
 
 pub record FactsIn (n : ℕ) (ms qs es : List ℕ) : Type 0 where
   pub members : MembersIn n ms
-  pub equations : EquationsIn n qs
+  pub ties : TiesIn n qs
   pub edges : EdgesIn n es

@@ -15,7 +15,7 @@ ghost use Rattle.classes.specs.Domains.{DomainTable};
 ghost use Rattle.chase.specs.Primary.{weight as weightOf};
 ghost use Rattle.primary.specs.Formed.{prime, Formed, Becomes};
 ghost use Rattle.chase.specs.Bounds.{maxNodes};
-ghost use Rattle.primary.specs.Words.{memberOf, equationOf, edgeOf, FactsIn};
+ghost use Rattle.primary.specs.Words.{memberOf, tieOf, edgeOf, FactsIn};
 ghost use Rattle.primary.specs.Pass.{passOn, Sum};
 
 // The table has the domains of all attributes; they are the same for each pass.
@@ -23,15 +23,15 @@ pub fn pass(
     schema: &[u16],
     table: &[u32; MAX_ATTRIBUTES],
     members: &[u16],
-    equations: &[u16],
+    ties: &[u16],
     edges: &[u16],
     reps: &mut [u32],
     sets: &mut [u32],
 )
-    requires { ⌜ AcceptedSchema (now schema) × DomainTable (now schema) (now table) × Formed (now reps) (now sets) × FactsIn (length (now reps)) (now members) (now equations) (now edges) ⌝ }
-    ensures { λ _. ⌜ Becomes (length (now (reps .entry))) (now (reps .exit)) (now (sets .exit)) (passOn (schemaOf (now (schema .entry))) (map memberOf (now (members .entry))) (map equationOf (now (equations .entry))) (map edgeOf (now (edges .entry))) (length (now (reps .entry))) (prime (now (reps .entry)) (now (sets .entry)))) ⌝ }
+    requires { ⌜ AcceptedSchema (now schema) × DomainTable (now schema) (now table) × Formed (now reps) (now sets) × FactsIn (length (now reps)) (now members) (now ties) (now edges) ⌝ }
+    ensures { λ _. ⌜ Becomes (length (now (reps .entry))) (now (reps .exit)) (now (sets .exit)) (passOn (schemaOf (now (schema .entry))) (map memberOf (now (members .entry))) (map tieOf (now (ties .entry))) (map edgeOf (now (edges .entry))) (length (now (reps .entry))) (prime (now (reps .entry)) (now (sets .entry)))) ⌝ }
 {
-    equate_all(equations, reps, sets);
+    equate_all(ties, reps, sets);
     assert_all(members, reps, sets);
     lift_all(schema, table, reps, sets);
     type_all(schema, table, edges, reps, sets);

@@ -10,8 +10,10 @@ use classes::collect::values;
 use classes::domains::domain_at;
 use classes::sets::meets;
 use classes::sets::place;
+use records::concept::Query;
 use records::layout::wide;
 use records::schema::MAX_ATTRIBUTES;
+use records::schema::MAX_CONSTANTS;
 ghost use mathlib.Core.Path.{_≡_};
 ghost use mathlib.Core.List.{map};
 ghost use lib.ListN.{length};
@@ -21,18 +23,21 @@ ghost use Rattle.classes.specs.Domains.{DomainTable};
 ghost use Rattle.chase.specs.Loops.{each, upto};
 ghost use Rattle.chase.specs.Primary.{equate, assert, lift, rival as rivalIn, unify as unifyIn};
 ghost use Rattle.primary.specs.Formed.{prime, Formed, Becomes};
-ghost use Rattle.primary.specs.Words.{memberOf, equationOf, edgeOf, MembersIn, EquationsIn, EdgeIn, EdgesIn, typeEdge, unifyRow};
+ghost use Rattle.primary.specs.Words.{memberOf, tieOf, edgeOf, MembersIn, TiesIn, EdgeIn, EdgesIn, typeEdge, unifyRow};
 
 // A part of a fact is below this.
 pub const PART: usize = 32;
+// The nodes of the largest query: its steps, the start and the constants. Where a mark may stand for a node, the numbers from here
+// on are the marks.
+pub const MAX_NODES: usize = Query::STEPS + 1 + MAX_CONSTANTS;
 
-pub fn equate_all(equations: &[u16], reps: &mut [u32], sets: &mut [u32])
-    requires { ⌜ Formed (now reps) (now sets) × EquationsIn (length (now reps)) (now equations) ⌝ }
-    ensures { λ _. ⌜ Becomes (length (now (reps .entry))) (now (reps .exit)) (now (sets .exit)) (each equate (map equationOf (now (equations .entry))) (prime (now (reps .entry)) (now (sets .entry)))) ⌝ }
+pub fn equate_all(ties: &[u16], reps: &mut [u32], sets: &mut [u32])
+    requires { ⌜ Formed (now reps) (now sets) × TiesIn (length (now reps)) (now ties) ⌝ }
+    ensures { λ _. ⌜ Becomes (length (now (reps .entry))) (now (reps .exit)) (now (sets .exit)) (each equate (map tieOf (now (ties .entry))) (prime (now (reps .entry)) (now (sets .entry)))) ⌝ }
 {
-    let n = equations.len();
+    let n = ties.len();
     for i in 0..n {
-        let w = wide(equations[i]);
+        let w = wide(ties[i]);
         merge(reps, sets, w / PART, w % PART);
     }
 }

@@ -15,21 +15,21 @@ fn settle(
     schema: &[u16],
     query: &[u16],
     members: &[u16],
-    equations: &[u16],
+    ties: &[u16],
     edges: &[u16],
     reps: &mut [u32],
     sets: &mut [u32],
 )
-    requires { ⌜ Asks (now schema) (now query) (now members) (now equations) (now edges) × (prime (now reps) (now sets) ≡ beginOf (queryTask (now schema) (now query))) ⌝ }
+    requires { ⌜ Asks (now schema) (now query) (now members) (now ties) (now edges) × (prime (now reps) (now sets) ≡ beginOf (queryTask (now schema) (now query))) ⌝ }
     ensures { λ _. ⌜ Becomes (nodes (queryTask (now (schema .entry)) (now (query .entry)))) (now (reps .exit)) (now (sets .exit)) (primary (queryTask (now (schema .entry)) (now (query .entry)))) ⌝ }
 {
     let table = domains(schema);
     let mut last = weight(reps, sets);
-    pass(schema, &table, members, equations, edges, reps, sets);
+    pass(schema, &table, members, ties, edges, reps, sets);
     let mut next = weight(reps, sets);
     while next != last {
         last = next;
-        pass(schema, &table, members, equations, edges, reps, sets);
+        pass(schema, &table, members, ties, edges, reps, sets);
         next = weight(reps, sets);
     }
 }
@@ -39,14 +39,14 @@ pub fn close(
     schema: &[u16],
     query: &[u16],
     members: &[u16],
-    equations: &[u16],
+    ties: &[u16],
     edges: &[u16],
     reps: &mut [u32],
     sets: &mut [u32],
 )
-    requires { ⌜ Asks (now schema) (now query) (now members) (now equations) (now edges) × (length (now reps) ≡ nodes (queryTask (now schema) (now query))) × (length (now sets) ≡ nodes (queryTask (now schema) (now query))) ⌝ }
+    requires { ⌜ Asks (now schema) (now query) (now members) (now ties) (now edges) × (length (now reps) ≡ nodes (queryTask (now schema) (now query))) × (length (now sets) ≡ nodes (queryTask (now schema) (now query))) ⌝ }
     ensures { λ _. ⌜ Becomes (nodes (queryTask (now (schema .entry)) (now (query .entry)))) (now (reps .exit)) (now (sets .exit)) (primary (queryTask (now (schema .entry)) (now (query .entry)))) ⌝ }
 {
     begin(reps, sets);
-    settle(schema, query, members, equations, edges, reps, sets);
+    settle(schema, query, members, ties, edges, reps, sets);
 }

@@ -10,19 +10,19 @@ array-share-prefix-ms : tie.Need-array-share-prefix-ms
 array-share-prefix-ms c = search needs
 
 slice-aggregate-close : tie.Need-slice-aggregate-close
-slice-aggregate-close c = let a = c .before .before .before .before .before .before .before .before .pre .1 .0 in sym (length-take-le _ _ (omega (arith, a .count, a .size)))
+slice-aggregate-close c = let a = c .before .before .before .before .before .before .before .before .before .pre .1 .0 in sym (length-take-le _ _ (omega (arith, a .count, a .size)))
 
 array-share-prefix-qs : tie.Need-array-share-prefix-qs
 array-share-prefix-qs c = search needs
 
 slice-aggregate-close-2 : tie.Need-slice-aggregate-close-2
-slice-aggregate-close-2 c = let a = c .before .before .before .before .before .before .before .before .before .pre .1 .1 .0 in sym (length-take-le _ _ (omega (arith, a .count, a .size)))
+slice-aggregate-close-2 c = let a = c .before .before .before .before .before .before .before .before .before .before .pre .1 .1 .0 in sym (length-take-le _ _ (omega (arith, a .count, a .size)))
 
 array-share-prefix-es : tie.Need-array-share-prefix-es
 array-share-prefix-es c = search needs
 
 slice-aggregate-close-3 : tie.Need-slice-aggregate-close-3
-slice-aggregate-close-3 c = let a = c .before .before .before .before .before .before .before .before .before .before .pre .1 .1 .1 in sym (length-take-le _ _ (omega (arith, a .count, a .size)))
+slice-aggregate-close-3 c = let a = c .before .before .before .before .before .before .before .before .before .before .before .pre .1 .1 .1 in sym (length-take-le _ _ (omega (arith, a .count, a .size)))
 
 close-requires : tie.Need-close-requires
 close-requires c κs = search needs

@@ -6,7 +6,7 @@ use Rattle.records.specs.Concept.{directionOf}
 use Rattle.records.proofs.PileLaws.{start-le}
 use Rattle.records.proofs.ReadingLaws.{concept-some, path-some, concept-next, path-next, concept-reads, step-reads, concept-suc, path-suc, concept-token, path-token, concept-not-path, path-not-concept}
 use Rattle.asked.proofs.PlaceLaws.{place-earlier, place-node, place-room, place-small, place-number}
-use Rattle.asked.proofs.ItemLaws.{place-between, place-below, place-after, both-grown, common-grown, step-grown, left-small, right-small, token-named, step-named, class-grown, constant-grown, reached-grown, everything-grown, empty-grown, concept-place, path-place, concept-put, path-put}
+use Rattle.asked.proofs.ItemLaws.{place-between, place-below, place-after, both-grown, common-grown, step-grown, left-small, right-small, token-named, step-named, class-grown, constant-grown, mark-grown, reached-grown, everything-grown, empty-grown, concept-place, path-place, concept-put, path-put}
 use native.Mathlib.Omega.{arith}
 use borrow.Author.Needs.{needs}
 use Prim.Native.Nat.{ℕ, suc, _*_, _<_}
@@ -29,6 +29,7 @@ use Rattle.asked.proofs.items.step.Kinds as step-kinds
 use Rattle.asked.proofs.items.+both+common+concept+path+step.Lts-step as step-lts
 use Rattle.asked.proofs.words.add_edge.Reads as add-edge-reads
 use Rattle.asked.proofs.words.add_equation.Reads as add-equation-reads
+use Rattle.asked.proofs.words.add_mark.Reads as add-mark-reads
 use Rattle.asked.proofs.words.add_member.Reads as add-member-reads
 use Rattle.records.proofs.token.token_at.Reads as token-at-reads
 use Rattle.asked.proofs.items.end_of.Reads as end-of-reads
@@ -89,7 +90,7 @@ abbrev path-calls : ℕ → path-lts.Claims
 path-calls t = (token-at-reads.Asked, token-at-reads.Learnt, step-below t, step.Post)
 
 abbrev concept-calls : ℕ → concept-lts.Claims
-concept-calls t = (token-at-reads.Asked, token-at-reads.Learnt, add-member-reads.Asked, add-member-reads.Learnt, add-equation-reads.Asked, add-equation-reads.Learnt, both-below t, both.Post, path-below t, path.Post, common-below t, common.Post)
+concept-calls t = (token-at-reads.Asked, token-at-reads.Learnt, add-member-reads.Asked, add-member-reads.Learnt, add-equation-reads.Asked, add-equation-reads.Learnt, both-below t, both.Post, path-below t, path.Post, common-below t, common.Post, add-mark-reads.Asked, add-mark-reads.Learnt)
 
 abbrev common-calls : ℕ → common-lts.Claims
 common-calls t = (path-below t, path.Post, start-of-reads.Asked, start-of-reads.Learnt, end-of-reads.Asked, end-of-reads.Learnt, add-equation-reads.Asked, add-equation-reads.Learnt)
@@ -143,7 +144,7 @@ common-add-equation-requires : (t : ℕ) → common-lts.Need-add-equation-requir
 common-add-equation-requires t c κs =
     let s = c .before .before .before .before .before in
     let r = concept-reads (s .args .query .now) (s .args .at) _ (s .pre .1 .1 .0) (s .pre .1 .1 .1) in
-    (place-room (place-between (s .pre .1 .0) (c .before .before .start-of .ensures) (c .before .before .before .path .ensures)) (omega arith), (left-small (s .pre .1 .0) (c .before .before .start-of .ensures) (r .3) (c .before .end-of .ensures), right-small (s .pre .1 .0) (r .2) (c .end-of2 .ensures)))
+    (place-room (place-between (s .pre .1 .0) (c .before .before .start-of .ensures) (c .before .before .before .path .ensures)) (omega arith), (omega (arith, left-small (s .pre .1 .0) (c .before .before .start-of .ensures) (r .3) (c .before .end-of .ensures)), right-small (s .pre .1 .0) (r .2) (c .end-of2 .ensures)))
 
 common-path-requires-2 : (t : ℕ) → common-lts.Need-path-requires-2 (common-calls t) (common-at t) common.Post
 common-path-requires-2 t c κs =
@@ -224,6 +225,16 @@ concept-common-requires t c κs =
     let q = sym (c .before .before .token-at .ensures) ∙ c .enum-told4 .given .1 in
     (omega (arith, s .pre .0, concept-next (s .args .query .now) _ h), (concept-place (s .pre .1 .0) h, (concept-suc (s .args .query .now) _ h, q)))
 
+concept-enum-known-k : (t : ℕ) → concept-lts.Need-enum-known-k (concept-calls t) (concept-at t) concept.Post
+concept-enum-known-k t c = search needs
+
+concept-add-mark-requires : (t : ℕ) → concept-lts.Need-add-mark-requires (concept-calls t) (concept-at t) concept.Post
+concept-add-mark-requires t c κs =
+    let s = c .before .before .before .before .before in
+    let h = s .pre .1 .1 in
+    let q = sym (c .before .before .before .token-at .ensures) ∙ c .before .k .given .1 in
+    (place-room (s .pre .1 .0) (concept-some (s .args .query .now) _ h), (token-named (concept-place (s .pre .1 .0) h) q, omega (arith, s .pre .1 .0 .node)))
+
 concept-returns : (t : ℕ) → concept-lts.Need-returns (concept-calls t) (concept-at t) concept.Post
 concept-returns t c =
     let s = c .before .before .before .before .before .before in
@@ -259,7 +270,14 @@ concept-returns-6 : (t : ℕ) → concept-lts.Need-returns-6 (concept-calls t) (
 concept-returns-6 t c = concept-put (c .before .before .before .before .before .pre .1 .0) (c .before .before .before .before .before .pre .1 .1) (c .common .ensures)
 
 concept-returns-7 : (t : ℕ) → concept-lts.Need-returns-7 (concept-calls t) (concept-at t) concept.Post
-concept-returns-7 t c = absurd (concept-not-path (c .before .before .before .args .query .now) _ (c .before .before .before .pre .1 .1) (rw (← (c .before .token-at .ensures)) (c .match .keys7)))
+concept-returns-7 t c =
+    let s = c .before .before .before .before .before .before in
+    let h = s .pre .1 .1 in
+    let q = sym (c .before .before .before .before .token-at .ensures) ∙ c .before .before .k .given .1 in
+    concept-put (s .pre .1 .0) h (mark-grown (concept-place (s .pre .1 .0) h) (concept-token (s .args .query .now) _ h q) (c .add-mark .ensures))
+
+concept-returns-8 : (t : ℕ) → concept-lts.Need-returns-8 (concept-calls t) (concept-at t) concept.Post
+concept-returns-8 t c = absurd (concept-not-path (c .before .before .before .args .query .now) _ (c .before .before .before .pre .1 .1) (rw (← (c .before .token-at .ensures)) (c .match .keys8)))
 
 path-sub-at : (t : ℕ) → path-lts.Need-sub-at (path-calls t) (path-at t) path.Post
 path-sub-at t c = path-some (c .before .args .query .now) _ (c .before .pre .1 .1)
@@ -329,7 +347,7 @@ step-add-edge-requires : (t : ℕ) → step-lts.Need-add-edge-requires (step-cal
 step-add-edge-requires t c κs =
     let s = c .before .before .before .before .before in
     let r = step-reads (s .args .query .now) (s .args .step .at) (directionOf (s .args .step .backward)) (s .args .step .attribute) (s .pre .1 .1 .0) (s .pre .1 .1 .1) in
-    (place-room (place-between (s .pre .1 .0) (c .before .start-of .ensures) (c .before .before .concept .ensures)) (omega arith), (step-named (s .pre .1 .0) (s .args .step .backward) (s .pre .1 .1 .1), left-small (s .pre .1 .0) (c .before .start-of .ensures) (r .3) (c .end-of .ensures), omega (arith, c .before .before .before .step-number .ensures, place-number (place-earlier (s .pre .1 .0) {d = s .args .step .at} (omega arith)))))
+    (place-room (place-between (s .pre .1 .0) (c .before .start-of .ensures) (c .before .before .concept .ensures)) (omega arith), (step-named (s .pre .1 .0) (s .args .step .backward) (s .pre .1 .1 .1), omega (arith, left-small (s .pre .1 .0) (c .before .start-of .ensures) (r .3) (c .end-of .ensures)), omega (arith, c .before .before .before .step-number .ensures, place-number (place-earlier (s .pre .1 .0) {d = s .args .step .at} (omega arith)))))
 
 step-path-requires : (t : ℕ) → step-lts.Need-path-requires (step-calls t) (step-at t) step.Post
 step-path-requires t c κs =
@@ -381,13 +399,16 @@ pub +both+common+concept+path+step-spec : {M : Type 1} → statement M
     (concept-path-requires t)
     (concept-enum-told-4 t)
     (concept-common-requires t)
+    (concept-enum-known-k t)
+    (concept-add-mark-requires t)
     (concept-returns t)
     (concept-returns-2 t)
     (concept-returns-3 t)
     (concept-returns-4 t)
     (concept-returns-5 t)
     (concept-returns-6 t)
-    (concept-returns-7 t))
+    (concept-returns-7 t)
+    (concept-returns-8 t))
     (λ t. path-lts.spec
     (path-calls t)
     (path-at t)

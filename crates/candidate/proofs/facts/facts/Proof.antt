@@ -1,39 +1,25 @@
--- The three parts, one after the other.
+-- What is declared, then the marks.
 use borrow.Author.Needs.{needs}
+use mathlib.Core.Path.{refl}
 use Rattle.records.specs.SchemaRecord.{schemaOf}
-use Rattle.candidate.proofs.PartLaws.{sized, limits, nodes-inside, members-room, pairs-room, names-room, all-wrote}
+use Rattle.candidate.proofs.PartLaws.{marks-room}
+use Rattle.candidate.proofs.WriteLaws.{wrote-then}
 use Rattle.candidate.proofs.facts.facts.Statement.{statement}
 use Rattle.candidate.proofs.facts.facts.Tie as tie
 
 signature-of-requires : tie.Need-signature-of-requires
 signature-of-requires c κs = tt
 
-class-rows-requires : tie.Need-class-rows-requires
-unfolding schemaOf
-class-rows-requires c κs =
-    let p = c .before .before .before .before .before .before .pre in
-    let is = c .before .signature-of .ensures in (
-      (sized _ _ _ _ _ _ (p .0) _ is, limits _ _ _ _ _ _ (p .0) _ is .0),
-      members-room _ _ _ _ _ _ (p .0) _ is _ (p .1),
-    )
+allow-requires : tie.Need-allow-requires
+allow-requires c κs = tt
 
-pair-rows-requires : tie.Need-pair-rows-requires
-unfolding schemaOf
-pair-rows-requires c κs =
-    let p = c .before .before .before .before .before .before .before .before .before .before .pre in
-    let is = c .before .before .before .before .before .signature-of .ensures in (
-      (sized _ _ _ _ _ _ (p .0) _ is, limits _ _ _ _ _ _ (p .0) _ is .1),
-      pairs-room _ _ _ _ _ _ (p .0) _ is _ (p .1) _ _ (c .before .before .before .class-rows .ensures),
-    )
+declared-requires : tie.Need-declared-requires
+declared-requires c κs = let p = c .before .before .before .before .before .before .before .before .before .pre in (p .0 .0, p .1)
 
-name-facts-requires : tie.Need-name-facts-requires
-unfolding schemaOf
-name-facts-requires c κs =
+mark-facts-requires : tie.Need-mark-facts-requires
+mark-facts-requires c κs =
     let p = c .before .before .before .before .before .before .before .before .before .before .before .before .before .before .pre in
-    let is = c .before .before .before .before .before .before .before .before .before .signature-of .ensures in (
-      (p .0 .inside, p .0 .nodes, nodes-inside _ _ _ _ _ _ (p .0) _ is, limits _ _ _ _ _ _ (p .0) _ is .2),
-      names-room _ _ _ _ _ _ (p .0) _ is _ (p .1) _ _ (c .before .before .before .before .before .before .before .class-rows .ensures) _ _ (c .before .before .before .pair-rows .ensures),
-    )
+    ((p .0 .0 .inside, p .0 .0 .nodes, p .0 .1), marks-room _ _ _ _ _ _ (p .0 .0) _ refl _ (p .1) _ _ (c .before .before .before .before .declared .ensures) (c .before .before .before .before .before .before .allow .result) (c .before .before .before .before .before .before .before .before .before .before .before .before .before .before .args .shape .marks .nodes))
 
 same-length : tie.Need-same-length
 same-length c = search needs
@@ -41,17 +27,16 @@ same-length c = search needs
 returns : tie.Need-returns
 unfolding schemaOf
 returns c =
-    let p = c .before .before .before .before .before .before .before .before .before .before .before .before .before .before .before .before .before .pre in
-    all-wrote _ _ _ _ _ _ (p .0) _ (c .before .before .before .before .before .before .before .before .before .before .before .before .signature-of .ensures) _ (p .1) _ _ (c .before .before .before .before .before .before .before .before .before .before .class-rows .ensures) _ _ (c .before .before .before .before .before .before .pair-rows .ensures)
-    _ _ (c .before .before .name-facts .ensures)
+    wrote-then _ _ _ _ _ _ _ _ (c .before .before .before .before .before .before .before .declared .ensures)
+    (rw (c .before .before .before .before .before .before .before .before .before .allow .ensures, c .before .before .before .before .before .before .before .before .before .before .signature-of .ensures) at (c .before .before .mark-facts .ensures))
 
 pub facts-spec : {M : Type 1} → statement M
 facts-spec =
     tie.close
     (tie.spec
     signature-of-requires
-    class-rows-requires
-    pair-rows-requires
-    name-facts-requires
+    allow-requires
+    declared-requires
+    mark-facts-requires
     same-length
     returns)

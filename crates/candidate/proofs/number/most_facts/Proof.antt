@@ -20,9 +20,12 @@ add-result-2 c = omega (arith, most-fit (c .before .before .args .s) _ _ (c .bef
 add-result-3 : tie.Need-add-result-3
 add-result-3 c = omega (arith, most-fit (c .before .before .before .args .s) _ _ (c .before .before .before .pre))
 
+add-result-4 : tie.Need-add-result-4
+add-result-4 c = omega (arith, most-fit (c .before .before .before .args .s) _ _ (c .before .before .before .pre))
+
 returns : tie.Need-returns
 returns c = (refl, most-fit (c .before .before .before .args .s) _ _ (c .before .before .before .pre))
 
 pub most-facts-spec : {M : Type 1} → statement M
 most-facts-spec =
-    tie.close (tie.spec mul-result mul-result-2 add-result add-result-2 add-result-3 returns)
+    tie.close (tie.spec mul-result mul-result-2 add-result add-result-2 add-result-3 add-result-4 returns)

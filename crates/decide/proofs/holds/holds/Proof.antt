@@ -4,12 +4,12 @@ use borrow.Author.Needs.{needs}
 use mathlib.Core.Bool.{cond}
 use mathlib.Core.List.{List, [], _∷_}
 use mathlib.Core.Path.{_≡_, refl, sym, _∙_}
-use Rattle.records.specs.Layout.{querySteps, viewSteps}
+use Rattle.records.specs.Layout.{queryMarks, querySteps, viewSteps}
 use Rattle.records.specs.SchemaRecord.{signatureOf}
 use Rattle.records.specs.SchemaRefusal.{AcceptedSchema}
 use Rattle.records.specs.ConceptRefusal.{AcceptedConcept}
-use Rattle.records.specs.Outcome.{schemaRefusal, queryRefusal}
-use Rattle.records.proofs.OutcomeLaws.{schema-turned, concept-turned, schema-signature, concept-known, schema-passed, query-passed, view-passed}
+use Rattle.records.specs.Outcome.{querySignature, schemaRefusal, queryRefusal}
+use Rattle.records.proofs.OutcomeLaws.{schema-turned, concept-turned, plain-turned, schema-signature, allowed-known, plain-known, schema-passed, query-passed, view-passed}
 use Rattle.decide.specs.declared.holds.HoldsAnswer.the-variants as holds
 use Rattle.decide.specs.Holding.{Holding}
 use Rattle.decide.proofs.HoldingLaws.{holds-decided, holds-refused}
@@ -31,15 +31,15 @@ accepted-schema c =
     schema-signature (S c) (c .before .checked .given .0 .0) (sym (c .before .before .before .check-schema .ensures) ∙ c .before .checked .given .1)
 
 -- once the query is
-accepted-query : (c : tie.After-enum-told) → AcceptedConcept querySteps (signatureOf (S (c .before .before .before))) (Q (c .before .before .before))
-accepted-query c = rw (accepted-schema (c .before .before .before) .0) at (concept-known _ _ _ (c .before .before .check-query .ensures) (c .enum-told .given .1))
+accepted-query : (c : tie.After-enum-told) → AcceptedConcept querySteps (querySignature (S (c .before .before .before))) (Q (c .before .before .before))
+accepted-query c = allowed-known _ _ (accepted-schema (c .before .before .before) .0) querySteps queryMarks (c .before .before .check-query .ensures) (c .enum-told .given .1)
 
 -- once the view is
 abbrev known : tie.After-enum-told2 → tie.After-known-told
 known c = c .before .before .before .before .before .before
 
 accepted-view : (c : tie.After-enum-told2) → AcceptedConcept viewSteps (signatureOf (S (known c))) (W (known c))
-accepted-view c = rw (accepted-schema (known c) .0) at (concept-known _ _ _ (c .before .before .check-view .ensures) (c .enum-told2 .given .1))
+accepted-view c = plain-known _ _ (accepted-schema (known c) .0) viewSteps (c .before .before .check-view .ensures) (c .enum-told2 .given .1)
 
 check-schema-requires : tie.Need-check-schema-requires
 check-schema-requires c κs = tt
@@ -69,7 +69,7 @@ returns-2 : tie.Need-returns-2
 returns-2 c =
     let k = c .before .before .before in
     holds-refused (S k) (Q k) (W k) (schemaRefusal (S k) ∷ []) _ (schema-passed _ (accepted-schema k .1), tt)
-    (concept-turned (S k) (Q k) (accepted-schema k .0) querySteps (c .number2 .ensures) (c .before .before .check-query .ensures) (c .before .match2 .keys2)) refl
+    (concept-turned (S k) (Q k) (accepted-schema k .0) querySteps queryMarks (c .number2 .ensures) (c .before .before .check-query .ensures) (c .before .match2 .keys2)) refl
 
 check-view-requires : tie.Need-check-view-requires
 check-view-requires c κs = tt
@@ -85,7 +85,7 @@ returns-3 c =
     let k = c .before .before .before .before .before .before in
     holds-refused (S k) (Q k) (W k) (schemaRefusal (S k) ∷ queryRefusal (S k) (Q k) ∷ []) _
     (schema-passed _ (accepted-schema k .1), (query-passed _ _ (accepted-query (c .before .before .before)), tt))
-    (concept-turned (S k) (W k) (accepted-schema k .0) viewSteps (c .number3 .ensures) (c .before .before .check-view .ensures) (c .before .match3 .keys2)) refl
+    (plain-turned (S k) (W k) (accepted-schema k .0) viewSteps (c .number3 .ensures) (c .before .before .check-view .ensures) (c .before .match3 .keys2)) refl
 
 held-requires : tie.Need-held-requires
 held-requires c κs =

@@ -29,7 +29,7 @@ answer-in-requires : tie.Need-answer-in-requires
 answer-in-requires c κs =
     let built = c .before .before .before .before .before .before .before .before .candidate .ensures in
     let apart = sym (built .clash-is) ∙ c .before .before .before .before .before .if1 .left in
-    listable _ _ _ (c .before .before .before .before .before .before .before .before .before .before .before .before .before .before .before .before .pre .0) apart _ _ _ _ (built .arrays apart)
+    listable _ _ _ (c .before .before .before .before .before .before .before .before .before .before .before .before .before .before .before .before .pre .0) apart _ _ _ _ (built .arrays apart) (built .marks)
 
 same-length-2 : tie.Need-same-length-2
 same-length-2 c = search needs
@@ -43,7 +43,7 @@ returns-2 c =
     let apart = sym (built .clash-is) ∙ c .before .before .before .before .before .before .before .before .if1 .left in
     let ok = c .before .before .before .before .before .before .before .before .before .before .before .before .before .before .before .before .before .before .before .pre .0 in
     let answer = c .before .before .answer-in .ensures in
-    (rw (answer .0) (told-by _ _ _ ok apart _ _ _ _ (built .arrays apart)), λ room. rw (answer .0, answer .1) (verdict-by _ _ _ ok apart _ _ _ _ (built .arrays apart) _ room))
+    (rw (answer .0) (told-by _ _ _ ok apart _ _ _ _ (built .arrays apart) (built .marks)), λ room. rw (answer .0, answer .1) (verdict-by _ _ _ ok apart _ _ _ _ (built .arrays apart) (built .marks) _ room))
 
 pub answer-of-spec : {M : Type 1} → statement M
 answer-of-spec =

@@ -12,7 +12,7 @@ use Rattle.primary.proofs.pass.pass.Statement.{statement}
 use Rattle.primary.proofs.pass.pass.Tie as tie
 
 equate-all-requires : tie.Need-equate-all-requires
-equate-all-requires c κs = let start = c .before .before .before .before .before .before .before .before in (start .pre .2, start .pre .3 .equations)
+equate-all-requires c κs = let start = c .before .before .before .before .before .before .before .before in (start .pre .2, start .pre .3 .ties)
 
 assert-all-requires : tie.Need-assert-all-requires
 assert-all-requires c κs =

@@ -1,4 +1,4 @@
--- The equations passed have been merged.
+-- The ties passed have been merged.
 use Prim.Native.Nat.{_-_, _≤_}
 use borrow.Author.Needs.{needs}
 use native.Mathlib.Omega.{arith}
@@ -8,19 +8,19 @@ use Rattle.primary.specs.Formed.{prime, Becomes}
 use Rattle.chase.proofs.TurnLaws.{passed}
 use Rattle.primary.proofs.FormedLaws.{words-none, words-more, words-all}
 use Rattle.chase.specs.Primary.{equate}
-use Rattle.primary.specs.Words.{equationOf}
+use Rattle.primary.specs.Words.{tieOf}
 use Rattle.primary.proofs.rules.equate_all.Statement.{statement}
 use Rattle.primary.proofs.rules.equate_all.Tie as tie
 
 abbrev Inv-loop : tie.InvT-loop
-Inv-loop equations reps₀ sets₀ n i₀ reps sets i =
-    (i ≤ n) × Becomes (length reps₀) reps sets (passed equate equationOf equations i (prime reps₀ sets₀))
+Inv-loop ties reps₀ sets₀ n i₀ reps sets i =
+    (i ≤ n) × Becomes (length reps₀) reps sets (passed equate tieOf ties i (prime reps₀ sets₀))
 
 abbrev μ-loop : tie.MeasureT-loop
-μ-loop equations reps₀ sets₀ n i₀ reps sets i = n - i
+μ-loop ties reps₀ sets₀ n i₀ reps sets i = n - i
 
 loop-holds : tie.Need-loop-holds Inv-loop μ-loop
-loop-holds c = (omega arith, words-none equate equationOf (c .before .before .before .args .equations .now) _ _ (c .before .before .before .pre .0))
+loop-holds c = (omega arith, words-none equate tieOf (c .before .before .before .args .ties .now) _ _ (c .before .before .before .pre .0))
 
 mul-wide : tie.Need-mul-wide Inv-loop μ-loop
 mul-wide c = search needs
@@ -47,7 +47,7 @@ loop-less c = omega arith
 loop-again : tie.Need-loop-again Inv-loop μ-loop
 loop-again c = (
   omega arith,
-  words-more equate equationOf (c .before .before .before .before .before .before .before .before .before .before .before .before .before .before .args .equations .now) _ _ _ _ _ _ _ (c .before .before .before .before .before .before .before .before .before .loop-test .taken) (c .before .before .before .before .before .before .before .before .before .before .loop .inv .1)
+  words-more equate tieOf (c .before .before .before .before .before .before .before .before .before .before .before .before .before .before .args .ties .now) _ _ _ _ _ _ _ (c .before .before .before .before .before .before .before .before .before .loop-test .taken) (c .before .before .before .before .before .before .before .before .before .before .loop .inv .1)
       (rw (c .before .before .before .before .before .before .before .wide .ensures) at (c .before .before .before .before .merge .ensures)),
 )
 
@@ -58,7 +58,7 @@ same-length-2 : tie.Need-same-length-2 Inv-loop μ-loop
 same-length-2 c = c .before .loop .inv .1 .formed .paired ∙ c .before .loop .inv .1 .size ∙ sym (c .before .before .before .before .before .pre .0 .paired)
 
 returns : tie.Need-returns Inv-loop μ-loop
-returns c = words-all equate equationOf (c .before .before .before .before .before .args .equations .now) _ _ _ _ _ (c .loop-test .left) (c .before .loop .inv .1)
+returns c = words-all equate tieOf (c .before .before .before .before .before .args .ties .now) _ _ _ _ _ (c .loop-test .left) (c .before .loop .inv .1)
 
 pub equate-all-spec : {M : Type 1} → statement M
 equate-all-spec = tie.close (tie.spec Inv-loop μ-loop loop-holds mul-wide shared-slice-read-wide wide-requires merge-requires add-i loop-less loop-again same-length same-length-2 returns)

@@ -9,11 +9,11 @@ use Rattle.primary.proofs.settle.settle.Statement.{statement}
 use Rattle.primary.proofs.settle.settle.Tie as tie
 
 abbrev Inv-loop : tie.InvT-loop
-Inv-loop schema query members equations edges reps₀ sets₀ table last₀ next₀ reps sets last next =
+Inv-loop schema query members ties edges reps₀ sets₀ table last₀ next₀ reps sets last next =
     Round (queryTask schema query) (prime reps sets) last next
 
 abbrev μ-loop : tie.MeasureT-loop
-μ-loop schema query members equations edges reps₀ sets₀ table last₀ next₀ reps sets last next = bound (queryTask schema query) - last
+μ-loop schema query members ties edges reps₀ sets₀ table last₀ next₀ reps sets last next = bound (queryTask schema query) - last
 
 domains-requires : tie.Need-domains-requires Inv-loop μ-loop
 domains-requires c κs = c .before .before .before .before .before .before .before .pre .0 .legal
