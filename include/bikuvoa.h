@@ -1,7 +1,7 @@
 /* Bikuvoa: whether a query may be read from a stored view, stored views in order, the judging of states, and what a concept
  * names.
  *
- * Ten functions over records of 16-bit words, in the machine's byte order, each record with its length in words. The format
+ * Eleven functions over records of 16-bit words, in the machine's byte order, each record with its length in words. The format
  * is in docs/RECORDS.md; the builders below write it. Any words may be passed: each function returns 0, or the number of the
  * first refusal that applies (enum bikuvoa_refusal), and then no lent word and no out value is altered.
  *
@@ -13,7 +13,7 @@
  *
  * Memory. No heap; for the stack see BIKUVOA_STACK_BYTES.
  *
- * Proved, for any words (crates/bikuvoa_c): what each of the ten functions returns and writes, that it touches nothing else,
+ * Proved, for any words (crates/bikuvoa_c): what each of the eleven functions returns and writes, that it touches nothing else,
  * and that it ends. Not proved: the stack, which is measured, and the inline functions of this header, which are tested.
  *
  * C89 with <stdint.h>, any later C, and C++. */
@@ -38,7 +38,7 @@ extern "C" {
 
 /* While the major version is 0, a new minor version may change the format of records. */
 #define BIKUVOA_VERSION_MAJOR 0
-#define BIKUVOA_VERSION_MINOR 6
+#define BIKUVOA_VERSION_MINOR 7
 #define BIKUVOA_VERSION_PATCH 0
 #define BIKUVOA_VERSION (BIKUVOA_VERSION_MAJOR * 10000 + BIKUVOA_VERSION_MINOR * 100 + BIKUVOA_VERSION_PATCH)
 
@@ -51,12 +51,13 @@ extern "C" {
 #define BIKUVOA_MAX_CLASSES 24
 #define BIKUVOA_MAX_ATTRIBUTES 8
 #define BIKUVOA_MAX_CONSTANTS 4
+#define BIKUVOA_MAX_MARKS 4
 #define BIKUVOA_MAX_AXIOMS 96
 #define BIKUVOA_MAX_TOKENS 64
 #define BIKUVOA_QUERY_STEPS 16
 #define BIKUVOA_VIEW_STEPS 6
 #define BIKUVOA_MAX_OBJECTS 480
-#define BIKUVOA_MAX_FACTS 15380
+#define BIKUVOA_MAX_FACTS 15384
 #define BIKUVOA_MAX_VIEWS 16
 
 /* A schema, a concept and a state are size words, then their entries' left words, then their right words. These are the places
@@ -113,15 +114,17 @@ enum bikuvoa_token_sort {
     BIKUVOA_FORWARD = 6,
     BIKUVOA_BACKWARD = 7,
     BIKUVOA_REACHED = 8,
-    BIKUVOA_COMMON = 9
+    BIKUVOA_COMMON = 9,
+    BIKUVOA_MARK = 10
 };
 
 /* A fact's left word is its kind times BIKUVOA_OBJECT_PART plus its object. Kinds begin with the classes; these are the
- * first kind of attributes, the first of constants, and one past the last. */
+ * first kind of attributes, the first of constants, the first of marks, and one past the last. */
 #define BIKUVOA_OBJECT_PART 512
 #define BIKUVOA_ATTRIBUTE_KINDS BIKUVOA_MAX_CLASSES
 #define BIKUVOA_CONSTANT_KINDS (BIKUVOA_ATTRIBUTE_KINDS + BIKUVOA_MAX_ATTRIBUTES)
-#define BIKUVOA_FACT_KINDS (BIKUVOA_CONSTANT_KINDS + BIKUVOA_MAX_CONSTANTS)
+#define BIKUVOA_MARK_KINDS (BIKUVOA_CONSTANT_KINDS + BIKUVOA_MAX_CONSTANTS)
+#define BIKUVOA_FACT_KINDS (BIKUVOA_MARK_KINDS + BIKUVOA_MAX_MARKS)
 
 /* What the functions return. The records are checked in the order of the parameters, each by these numbers from the lowest
  * up, except that a schema is checked by 14 directly after 1; and after them the attribute or the lent words, where a function
@@ -157,7 +160,8 @@ BIKUVOA_INLINE const char *bikuvoa_refusal_text(uint16_t refusal)
     case BIKUVOA_BAD_CONCEPT_SHAPE:
         return "query or view: cut off, no token, too many, or a length that does not fit the count of tokens";
     case BIKUVOA_BAD_TOKEN:
-        return "query or view: a token of unknown sort, or with an argument that is not declared or should be 0";
+        return "query or view: a token of unknown sort, with an argument that is not declared or should be 0, or a mark "
+               "where none may be";
     case BIKUVOA_BAD_PILE:
         return "query or view: a token without the concepts or paths that it takes, or not one concept at the end";
     case BIKUVOA_BAD_STEPS:
@@ -165,13 +169,13 @@ BIKUVOA_INLINE const char *bikuvoa_refusal_text(uint16_t refusal)
     case BIKUVOA_BAD_STATE_SHAPE:
         return "state: cut off, a size above its limit, or a length that does not fit the count of facts";
     case BIKUVOA_BAD_FACT:
-        return "state: a fact of a kind that is not declared, with an object that is not there, or with a right word that "
-               "should be 0";
+        return "state: a fact of a kind that is not declared or of a mark that is not used, with an object that is not "
+               "there, or with a right word that should be 0";
     case BIKUVOA_BAD_ORDER:
         return "state: facts that do not ascend, or a fact twice";
     case BIKUVOA_BAD_CONSTANTS:
-        return "state: a declared constant without an object or with several, or two that are not loose with the same "
-               "object";
+        return "state: a declared constant or a used mark without an object or with several, or two constants that are "
+               "not loose with the same object";
     case BIKUVOA_FEW_LENT_WORDS:
         return "lent words: too few";
     case BIKUVOA_BAD_ATTRIBUTE:
@@ -179,26 +183,31 @@ BIKUVOA_INLINE const char *bikuvoa_refusal_text(uint16_t refusal)
     case BIKUVOA_BAD_CATALOGUE:
         return "catalogue: no view, too many, or a length that does not fit the count and the length words";
     case BIKUVOA_BAD_LOOSE:
-        return "schema: a constant that is marked loose and not declared";
+        return "schema: a constant that is loose and not declared";
     default:
         return "a number that is no refusal";
     }
 }
 
-/* Checks a query by itself, and says what it names. In the class set *classes bit a (1u << a) is 1 exactly if some token is
- * class a. In the attribute set *attributes bit p is 1 exactly if some step, forward or backward, is of attribute p. Higher
- * bits are 0. *named is how many classes are named, each counted once. Only the query's own tokens count, and not what the
- * axioms mention; constants are no names, and "everything" names nothing. */
+/* Checks a query without marks by itself, as for bikuvoa_select and the counts of links, and says what it names. In the class set
+ * *classes bit a (1u << a) is 1 exactly if some token is class a. In the attribute set *attributes bit p is 1 exactly if some
+ * step, forward or backward, is of attribute p. Higher bits are 0. *named is how many classes are named, each counted once.
+ * Only the query's own tokens count, and not what the axioms mention; constants and marks are no names, and "everything" names
+ * nothing. */
 uint16_t bikuvoa_check_concept(const uint16_t *schema, size_t schema_words, const uint16_t *query, size_t query_words,
                                uint32_t *classes, uint32_t *attributes, uint64_t *named);
 
-/* The same of a view: it may have BIKUVOA_VIEW_STEPS steps, where a query may have BIKUVOA_QUERY_STEPS. */
+/* The same of a query that may have marks, as for bikuvoa_decide, bikuvoa_holds and bikuvoa_counterexample. */
+uint16_t bikuvoa_check_query(const uint16_t *schema, size_t schema_words, const uint16_t *query, size_t query_words,
+                             uint32_t *classes, uint32_t *attributes, uint64_t *named);
+
+/* The same of a view: it may have BIKUVOA_VIEW_STEPS steps, where a query may have BIKUVOA_QUERY_STEPS, and no mark. */
 uint16_t bikuvoa_check_view(const uint16_t *schema, size_t schema_words, const uint16_t *view, size_t view_words,
                             uint32_t *classes, uint32_t *attributes, uint64_t *named);
 
-/* Which objects of the state the query selects: lent word i becomes 1 if object i is in it and 0 if not, for each of the N
- * objects; later words are unaltered. *selected is how many are. A view may stand in the query's place. Refused as
- * BIKUVOA_FEW_LENT_WORDS if there are fewer than N lent words; BIKUVOA_MAX_OBJECTS are always enough. */
+/* Which objects of the state the query, which has no marks, selects: lent word i becomes 1 if object i is in it and 0 if not,
+ * for each of the N objects; later words are unaltered. *selected is how many are. A view may stand in the query's place.
+ * Refused as BIKUVOA_FEW_LENT_WORDS if there are fewer than N lent words; BIKUVOA_MAX_OBJECTS are always enough. */
 uint16_t bikuvoa_select(const uint16_t *schema, size_t schema_words, const uint16_t *query, size_t query_words,
                         const uint16_t *state, size_t state_words, uint16_t *lent, size_t lent_words,
                         uint64_t *selected);
@@ -208,14 +217,15 @@ uint16_t bikuvoa_legal(const uint16_t *schema, size_t schema_words, const uint16
                        uint64_t *broken);
 
 /* *found is o + 1, where o is the lowest object in the query and outside the view, if the state is legal and has one,
- * and otherwise 0. */
+ * and otherwise 0. Where the query has marks, the state's facts say which object each of them is: a mark that the query uses
+ * has exactly one such fact, and any other mark has none. */
 uint16_t bikuvoa_counterexample(const uint16_t *schema, size_t schema_words, const uint16_t *query, size_t query_words,
                                 const uint16_t *view, size_t view_words, const uint16_t *state, size_t state_words,
                                 uint64_t *found);
 
-/* A link is a pair of the attribute. *links is how many of them have a first object that the query selects: for each selected
- * object the number of its values, added up. The state need not be legal, and a view may stand in the query's place. Any
- * number may be passed as the attribute; refused as BIKUVOA_BAD_ATTRIBUTE if the schema does not declare it. */
+/* A link is a pair of the attribute. *links is how many of them have a first object that the query, which has no marks, selects:
+ * for each selected object the number of its values, added up. The state need not be legal, and a view may stand in the query's
+ * place. Any number may be passed as the attribute; refused as BIKUVOA_BAD_ATTRIBUTE if the schema does not declare it. */
 uint16_t bikuvoa_links_by_first(const uint16_t *schema, size_t schema_words, const uint16_t *query, size_t query_words,
                                 const uint16_t *state, size_t state_words, uint16_t attribute, uint64_t *links);
 
@@ -224,10 +234,11 @@ uint16_t bikuvoa_links_by_first(const uint16_t *schema, size_t schema_words, con
 uint16_t bikuvoa_links_by_second(const uint16_t *schema, size_t schema_words, const uint16_t *query, size_t query_words,
                                  const uint16_t *state, size_t state_words, uint16_t attribute, uint64_t *links);
 
-/* Whether in every legal finite state, of any size, each object in the query is in the view.
+/* Whether in every legal finite state, of any size, each object in the query is in the view, whichever objects its marks are.
  * HELD, if so: *objects becomes 0; *object and the lent words stay as they were.
  * OPEN, if not: the lent words begin with the record of a legal state of *objects objects (1 to BIKUVOA_MAX_OBJECTS) in which
- * *object is in the query and outside the view; words after that record are unaltered.
+ * *object is in the query and outside the view, with a fact for each mark that the query uses; words after that record are
+ * unaltered.
  * Both return 0: make the verdict with bikuvoa_verdict_of. Refused as BIKUVOA_FEW_LENT_WORDS if there are fewer than
  * BIKUVOA_DECIDE_WORDS lent words. */
 uint16_t bikuvoa_decide(const uint16_t *schema, size_t schema_words, const uint16_t *query, size_t query_words,
@@ -352,7 +363,7 @@ BIKUVOA_INLINE bikuvoa_schema bikuvoa_start_schema(uint16_t *words, size_t room,
     return s;
 }
 
-/* Marks constant k as loose: it may name the same object as any other constant. */
+/* Makes constant k loose: it may name the same object as any other constant. */
 BIKUVOA_INLINE void bikuvoa_loose(bikuvoa_schema *schema, size_t k)
 {
     if (schema->length == 0) return;
@@ -419,7 +430,9 @@ BIKUVOA_INLINE void bikuvoa_token(bikuvoa_concept *c, size_t sort, size_t argume
     if (c->length && (sort == BIKUVOA_FORWARD || sort == BIKUVOA_BACKWARD)) c->words[BIKUVOA_AT_STEPS]++;
 }
 
-/* Each puts a concept: the class a, everything, the constant k. */
+/* Each puts a concept: the class a, everything, the constant k, the mark k. All places with the same mark are the same object,
+ * and different marks may be one object. Marks may stand in a query for bikuvoa_decide, bikuvoa_holds and
+ * bikuvoa_counterexample alone. */
 BIKUVOA_INLINE void bikuvoa_class(bikuvoa_concept *c, size_t a)
 {
     bikuvoa_token(c, BIKUVOA_CLASS, a);
@@ -433,6 +446,11 @@ BIKUVOA_INLINE void bikuvoa_everything(bikuvoa_concept *c)
 BIKUVOA_INLINE void bikuvoa_constant(bikuvoa_concept *c, size_t k)
 {
     bikuvoa_token(c, BIKUVOA_CONSTANT, k);
+}
+
+BIKUVOA_INLINE void bikuvoa_mark(bikuvoa_concept *c, size_t k)
+{
+    bikuvoa_token(c, BIKUVOA_MARK, k);
 }
 
 /* Both of the last two concepts. */
@@ -530,6 +548,12 @@ BIKUVOA_INLINE void bikuvoa_name(bikuvoa_state *state, size_t k, size_t object)
     bikuvoa_fact(state, bikuvoa_left(BIKUVOA_CONSTANT_KINDS, k, BIKUVOA_MAX_CONSTANTS, object), 0);
 }
 
+/* Mark k is the object. */
+BIKUVOA_INLINE void bikuvoa_choose(bikuvoa_state *state, size_t k, size_t object)
+{
+    bikuvoa_fact(state, bikuvoa_left(BIKUVOA_MARK_KINDS, k, BIKUVOA_MAX_MARKS, object), 0);
+}
+
 /* A catalogue without views. */
 BIKUVOA_INLINE bikuvoa_views bikuvoa_start_views(uint16_t *words, size_t room)
 {
@@ -586,14 +610,22 @@ BIKUVOA_INLINE size_t bikuvoa_fact_second(const uint16_t *state, size_t i)
     return state[BIKUVOA_STATE_SIZES + bikuvoa_facts(state) + i];
 }
 
-/* One record at a time: the refusal that it gets in that place, or 0. A state's is what bikuvoa_legal returns. So after a
- * refusal of 3 to 6 the query is at fault if bikuvoa_query_refusal is not 0, and otherwise the view. */
+/* One record at a time: the refusal that it gets in that place, or 0. A state's is what bikuvoa_legal returns, unless the query
+ * has marks. So after a refusal of 3 to 6 the query is at fault if bikuvoa_query_refusal is not 0, and otherwise the view. */
+BIKUVOA_INLINE uint16_t bikuvoa_concept_refusal(const uint16_t *schema, size_t schema_words, const uint16_t *query,
+                                              size_t query_words)
+{
+    uint32_t classes = 0, attributes = 0;
+    uint64_t named = 0;
+    return bikuvoa_check_concept(schema, schema_words, query, query_words, &classes, &attributes, &named);
+}
+
 BIKUVOA_INLINE uint16_t bikuvoa_query_refusal(const uint16_t *schema, size_t schema_words, const uint16_t *query,
                                             size_t query_words)
 {
     uint32_t classes = 0, attributes = 0;
     uint64_t named = 0;
-    return bikuvoa_check_concept(schema, schema_words, query, query_words, &classes, &attributes, &named);
+    return bikuvoa_check_query(schema, schema_words, query, query_words, &classes, &attributes, &named);
 }
 
 BIKUVOA_INLINE uint16_t bikuvoa_view_refusal(const uint16_t *schema, size_t schema_words, const uint16_t *view,

@@ -11,11 +11,12 @@ use Rattle.records.specs.Schema.{Schema}
 use Rattle.records.specs.Concept.{Concept}
 use Rattle.records.specs.Layout.{maxAxioms, maxObjects}
 use Rattle.records.specs.Executable.{holds, firstBroken}
-use Rattle.records.specs.SchemaRecord.{schemaOf, signatureOf}
+use Rattle.records.specs.SchemaRecord.{schemaOf}
+use Rattle.records.specs.Outcome.{choiceSignature}
 use Rattle.records.specs.ConceptRecord.{conceptOf}
 use Rattle.records.specs.StateRecord.{stateOf}
 use Rattle.records.proofs.General.FiniteLaws.{least-le}
-use Rattle.records.proofs.OutcomeLaws.{outcome-is, passed-schema, passed-state}
+use Rattle.records.proofs.OutcomeLaws.{outcome-is, passed-schema, passed-choice}
 use Rattle.records.proofs.AcceptedLaws.{axioms-few, objects-few, passes-1, passes-7}
 use Rattle.judge.specs.declared.legal.LegalAnswer.the-variants as legal
 use Rattle.judge.specs.declared.counterexample.CounterexampleAnswer.the-variants as counterexample
@@ -53,4 +54,4 @@ counterexample-fits w q u v =
     outcome-is counterexample.Refused (finding (schemaOf w) (stateOf v) (conceptOf q) (conceptOf u)) CounterexampleFits
     (counterexampleRefusals w q u v) (λ n. tt)
     (λ p.
-    finding-fits (schemaOf w) (stateOf v) (conceptOf q) (conceptOf u) (objects-few v (passes-7 (signatureOf w) v (passed-state w v (p .1 .1 .1 .0)))))
+    finding-fits (schemaOf w) (stateOf v) (conceptOf q) (conceptOf u) (objects-few v (passes-7 (choiceSignature w q) v (passed-choice w q v (p .1 .1 .1 .0)))))

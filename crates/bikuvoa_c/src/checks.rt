@@ -1,8 +1,8 @@
-// A query or a view checked by itself, and what it names.
+// A concept checked by itself in each role, and what it names.
 use records::check::CheckAnswer;
 use records::named::Named;
 ghost use mathlib.Core.Path.{_≡_};
-ghost use Rattle.records.specs.Check.{queryCheck, viewCheck};
+ghost use Rattle.records.specs.Check.{plainCheck, queryCheck, viewCheck};
 ghost use Rattle.bikuvoa_c.specs.Answers.{checkReturns, checkWrites, CheckedTo};
 
 fn check_returns(answer: CheckAnswer) -> u16
@@ -46,10 +46,28 @@ pub extern "C" fn bikuvoa_check_concept(
     attributes: &mut u32,
     named: &mut u64,
 ) -> u16
-    ensures { λ r. ⌜ CheckedTo (queryCheck (now (schema .entry)) (now (concept .entry))) (record { classes = now (classes .entry); attributes = now (attributes .entry); count = now (named .entry) }) r (record { classes = now (classes .exit); attributes = now (attributes .exit); count = now (named .exit) }) ⌝ }
+    ensures { λ r. ⌜ CheckedTo (plainCheck (now (schema .entry)) (now (concept .entry))) (record { classes = now (classes .entry); attributes = now (attributes .entry); count = now (named .entry) }) r (record { classes = now (classes .exit); attributes = now (attributes .exit); count = now (named .exit) }) ⌝ }
 {
     give(
-        records::check::query(schema, concept),
+        records::check::plain(schema, concept),
+        classes,
+        attributes,
+        named,
+    )
+}
+
+#[no_mangle]
+pub extern "C" fn bikuvoa_check_query(
+    schema: &[u16],
+    query: &[u16],
+    classes: &mut u32,
+    attributes: &mut u32,
+    named: &mut u64,
+) -> u16
+    ensures { λ r. ⌜ CheckedTo (queryCheck (now (schema .entry)) (now (query .entry))) (record { classes = now (classes .entry); attributes = now (attributes .entry); count = now (named .entry) }) r (record { classes = now (classes .exit); attributes = now (attributes .exit); count = now (named .exit) }) ⌝ }
+{
+    give(
+        records::check::query(schema, query),
         classes,
         attributes,
         named,
