@@ -8,7 +8,7 @@ import sys
 import tempfile
 
 from triples import ROOT, TRIPLES, files
-from words import BACKWARD, BOTH, CLASS, COMMON, CONSTANT, EMPTY, EVERYTHING, FORWARD, REACHED, axioms, concept, schema
+from words import BACKWARD, BOTH, CLASS, COMMON, CONSTANT, EMPTY, EVERYTHING, FORWARD, MARK, axioms, concept, schema
 
 PROGRAM = ROOT / "target" / "bin" / "bikuvoa"
 
@@ -61,6 +61,8 @@ class State:
                 pile.append(set(self.objects))
             elif sort == CONSTANT:
                 pile.append(self.members(32 + argument))
+            elif sort == MARK:
+                pile.append(self.members(36 + argument))
             elif sort == BOTH:
                 pile.append(pile.pop() & pile.pop())
             elif sort == EMPTY:
@@ -74,18 +76,23 @@ class State:
                 pile.append({x for x, _ in path})
         return pile.pop()
 
-
     def misnames(self, constants, loose):
         """Whether a constant has no object or several, or two that are not loose have the same."""
         objects = [self.members(32 + k) for k in range(constants)]
         firm = [found for k, found in enumerate(objects) if not loose >> k & 1]
         return any(len(found) != 1 for found in objects) or len(set.union(set(), *firm)) < len(firm)
 
+    def chooses(self, query):
+        """Whether each mark that the query uses has one object, and no other mark has one."""
+        used = {token[1] for token in query if isinstance(token, tuple) and token[0] == MARK}
+        return all(len(self.members(36 + k)) == (k in used) for k in range(4))
+
 
 def judged(lines, schema_words, query, view):
     state = State(lines)
     _, _, constants, _, loose, *_ = schema_words
     assert not state.misnames(constants, loose), "an object for each constant"
+    assert state.chooses(query), "an object for each mark of the query"
     assert not any(state.breaks(*axiom) for axiom in axioms(schema_words)), "a legal state"
     assert state.object in state.selects(query) - state.selects(view), "an object in the query and outside the view"
 
@@ -110,7 +117,7 @@ def main():
         spoilt.append(({k: v for k, v in good.items() if k != name}, f"REFUSED {number}"))
         spoilt += [({**good, name: content}, f"REFUSED {number}") for content in (good[name] + b"\0", good[name] + bytes(1000), b"\0" * 70001)]
     # Each at its record's turn: a bad view is seen only after its query.
-    spoilt.append(({**good, "query.bin": b"\1\0\0\0\x0a\0\0\0", "view.bin": b""}, "REFUSED 4"))
+    spoilt.append(({**good, "query.bin": b"\1\0\0\0\x0b\0\0\0", "view.bin": b""}, "REFUSED 4"))
     assert run(good) == ["HELD"]
     for contents, line in spoilt:
         assert run(contents) == [line], (contents.keys(), run(contents))

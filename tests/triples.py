@@ -9,8 +9,8 @@ none.
 import pathlib
 import sys
 
-from words import (BACKWARD, BOTH, CLASS, COMMON, CONSTANT, EMPTY, EVERYTHING, FORWARD, REACHED, axiom, catalogue, concept, kept,
-                   schema, words)
+from words import (BACKWARD, BOTH, CLASS, COMMON, CONSTANT, EMPTY, EVERYTHING, FORWARD, MARK, REACHED, axiom, catalogue, concept,
+                   kept, schema, words)
 
 ROOT = pathlib.Path(__file__).resolve().parent.parent
 CRATE = ROOT / "crates" / "triples"
@@ -93,6 +93,22 @@ def values(*constants):
         found = both(found, forward([(CONSTANT, k)]))
     return found
 
+
+
+def marked(k, c=ANY):
+    """Objects of c that are mark k."""
+    return both(c, [(MARK, k)])
+
+
+def two_marked(j, k):
+    """Objects with a value of P in B that is mark j, and one in C that is mark k."""
+    return both(forward(marked(j, is_a(B))), forward(marked(k, is_a(C))))
+
+
+# The start has itself as a value of P.
+SELF = path((FORWARD, P, ANY)) + path() + [COMMON]
+
+
 # The medical example of the report.
 PATIENT, PERSON, DRUG, DOCTOR, DISEASE, STRING, TOPIC, MALE, FEMALE = range(9)
 TAKES, CONSULTS, SUFFERS, NAME, SKILLED_IN = range(5)
@@ -110,12 +126,22 @@ PATIENT_VIEW = both(both(is_a(PATIENT), reached((FORWARD, NAME, is_a(STRING)))),
 # A rowing club: what may be read from the stored list of persons whose strap has recorded a beat of a session.
 ROWER_PERSON, ROWER, STRAP, SESSION, BEAT = range(5)
 WEARS, RECORDS, DURING, ATTENDS = range(4)
-CLUB = schema(5, 4, 0, [
+CLUB_AXIOMS = [
     includes(ROWER, ROWER_PERSON), needs(ROWER, WEARS), single(ROWER_PERSON, WEARS), relates(WEARS, ROWER_PERSON, STRAP),
     needs(STRAP, RECORDS), relates(RECORDS, STRAP, BEAT), needs(BEAT, DURING), single(BEAT, DURING),
-    relates(DURING, BEAT, SESSION), relates(ATTENDS, ROWER_PERSON, SESSION)])
+    relates(DURING, BEAT, SESSION), relates(ATTENDS, ROWER_PERSON, SESSION)]
+CLUB = schema(5, 4, 0, CLUB_AXIOMS)
 ROWERS = both(is_a(ROWER), reached((FORWARD, ATTENDS, is_a(SESSION))))
 RECORDED = both(is_a(ROWER_PERSON), reached((FORWARD, WEARS, is_a(STRAP)), (FORWARD, RECORDS, ANY), (FORWARD, DURING, is_a(SESSION))))
+
+# The same club, where a session is stroked by rowers: beats whose strap's wearer is also the session's stroke, and two stored
+# lists, of the beats of rowers and of the beats of sessions that someone attends.
+STROKED_BY = 4
+STROKED = schema(5, 5, 0, [*CLUB_AXIOMS, relates(STROKED_BY, SESSION, ROWER)])
+STROKE_BEATS = both(reached((BACKWARD, RECORDS, is_a(STRAP)), (BACKWARD, WEARS, [(MARK, 0)])),
+                    reached((FORWARD, DURING, is_a(SESSION)), (FORWARD, STROKED_BY, [(MARK, 0)])))
+ROWER_BEATS = reached((BACKWARD, RECORDS, is_a(STRAP)), (BACKWARD, WEARS, is_a(ROWER)))
+ATTENDED_BEATS = reached((FORWARD, DURING, is_a(SESSION)), (BACKWARD, ATTENDS, is_a(ROWER_PERSON)))
 
 TRIPLES = [
     (schema(1, 0, 0), is_a(A), is_a(A), "HELD"),
@@ -149,6 +175,31 @@ TRIPLES = [
     (loose_of(3, 0, 2), values(0, 2, 1), is_a(B), "OPEN"),
     # A loose constant may share an object, and need not.
     (loose_of(2, 0, 1), [(CONSTANT, 0)], [(CONSTANT, 1)], "OPEN"),
+    (STROKED, STROKE_BEATS, ROWER_BEATS, "HELD"),
+    (STROKED, STROKE_BEATS, ATTENDED_BEATS, "OPEN"),
+    # The places of one mark are one object; those of two marks may be one, and need not.
+    (small(), two_marked(0, 0), ONE_VALUE, "HELD"),
+    (small(), two_marked(3, 3), ONE_VALUE, "HELD"),
+    (small(), two_marked(0, 3), ONE_VALUE, "OPEN"),
+    (small(single(A, P)), both(is_a(A), two_marked(0, 3)), ONE_VALUE, "HELD"),
+    (small(), two_marked(1, 2), both(forward(is_a(B)), forward(is_a(C))), "HELD"),
+    # At the start and at a landing, on both sides of common, and behind another step.
+    (small(), marked(2, forward([(MARK, 2)])), SELF, "HELD"),
+    (small(), marked(2, forward([(MARK, 1)])), SELF, "OPEN"),
+    (small(), marked(2, forward(ANY, [(MARK, 2)])), SELF, "OPEN"),
+    (small(), marked(2, forward(ANY, [(MARK, 2)])),
+     path((FORWARD, P, ANY), (FORWARD, P, ANY)) + path() + [COMMON], "HELD"),
+    (small(), path((FORWARD, P, [(MARK, 0)]), (FORWARD, P, ANY)) + path((FORWARD, Q, [(MARK, 0)])) + [COMMON],
+     path((FORWARD, P, ANY)) + path((FORWARD, Q, ANY)) + [COMMON], "HELD"),
+    # A mark beside constants: it is each of them, which clash unless one is loose.
+    (loose_of(1), both(forward(marked(0, [(CONSTANT, 0)])), forward(marked(0, is_a(B)))), forward(both([(CONSTANT, 0)], is_a(B))),
+     "HELD"),
+    (loose_of(2), both(forward(marked(0, [(CONSTANT, 0)])), forward(marked(0, [(CONSTANT, 1)]))), is_a(B), "HELD"),
+    (loose_of(2, 0), both(forward(marked(0, [(CONSTANT, 0)])), forward(marked(0, [(CONSTANT, 1)]))), is_a(B), "OPEN"),
+    (loose_of(2, 0), both(forward(marked(0, [(CONSTANT, 0)])), forward(marked(0, [(CONSTANT, 1)]))), forward(TWO_CONSTANTS), "HELD"),
+    # A mark alone says only that there is an object.
+    (small(), [(MARK, 0)], ANY, "HELD"),
+    (small(), [(MARK, 0)], is_a(A), "OPEN"),
     # Faulty records are refused in the order schema, query, view.
     ([], is_a(A), is_a(A), "REFUSED 1"),
     ([1, 0, 0, 0], is_a(A), is_a(A), "REFUSED 1"),
@@ -158,6 +209,9 @@ TRIPLES = [
     (small(), is_a(3), [BOTH], "REFUSED 4"),
     (small(), [BOTH], is_a(3), "REFUSED 5"),
     (small(), is_a(A), forward(*[ANY] * 7), "REFUSED 6"),
+    (small(), [(MARK, 4)], ANY, "REFUSED 4"),
+    (small(), ANY, [(MARK, 0)], "REFUSED 4"),
+    (small(), [(MARK, 0)], [(MARK, 0)], "REFUSED 4"),
 ]
 
 
@@ -196,6 +250,8 @@ def made():
         **files(ROOT / "example", CLUB, concept(ROWERS), concept(RECORDED)),
         ROOT / "example" / "catalogue.bin": words(CATALOGUE),
         **files(ROOT / "example" / "reversed", CLUB, concept(RECORDED), concept(ROWERS)),
+        **files(ROOT / "example" / "stroke", STROKED, concept(STROKE_BEATS), concept(ROWER_BEATS)),
+        **files(ROOT / "example" / "stroke" / "attended", STROKED, concept(STROKE_BEATS), concept(ATTENDED_BEATS)),
     }
 
 
