@@ -1,10 +1,10 @@
 //! A rowing club. It keeps a list of the persons whose strap has recorded a beat
 //! of a session. May the rowers who attend a session be looked for in that list,
-//! and may the list be looked for among those rowers?
+//! and may the list be looked for among those rowers? And where may those be looked
+//! for who attend the very session that their strap has recorded?
 
-use bikuvoa::{
-    BuildError, Concept, Decision, Fact, Object, Path, Query, Schema, SchemaBuilder, View,
-};
+use bikuvoa::{BuildError, Concept, Decision, Fact, Mark, Object, Path, Query, Schema};
+use bikuvoa::{SchemaBuilder, View};
 
 pub struct Club {
     pub schema: Schema,
@@ -12,6 +12,9 @@ pub struct Club {
     pub rowers: Concept,
     /// Persons whose strap has recorded a beat during a session.
     pub recorded: Concept,
+    /// Those who attend a session of which their strap has recorded a beat. One
+    /// mark in two places says that it is the same session.
+    pub present: Concept,
 }
 
 pub fn club() -> Result<Club, BuildError> {
@@ -37,15 +40,19 @@ pub fn club() -> Result<Club, BuildError> {
         .relates(during, beat, session)?
         .relates(attends, person, session)?;
 
-    let attending = Path::empty().forward(attends, Concept::class(session));
-    let recording = Path::empty()
-        .forward(wears, Concept::class(strap))
-        .forward(records, Concept::everything())
-        .forward(during, Concept::class(session));
+    let attending = |one| Concept::reached(Path::empty().forward(attends, one));
+    let recording = |one| {
+        let worn = Path::empty().forward(wears, Concept::class(strap));
+        let beats = worn.forward(records, Concept::everything());
+        Concept::reached(beats.forward(during, one))
+    };
+    let some = || Concept::class(session);
+    let same = || Concept::mark(Mark(0));
     Ok(Club {
         schema: builder.build(),
-        rowers: Concept::both(Concept::class(rower), Concept::reached(attending)),
-        recorded: Concept::both(Concept::class(person), Concept::reached(recording)),
+        rowers: Concept::both(Concept::class(rower), attending(some())),
+        recorded: Concept::both(Concept::class(person), recording(some())),
+        present: Concept::both(attending(same()), recording(same())),
     })
 }
 
@@ -91,6 +98,10 @@ impl Club {
                 let constant = named(self.schema.constant_name(constant));
                 format!("  {constant} is {object}")
             }
+            Fact::Choice {
+                mark: Mark(mark),
+                object: Object(object),
+            } => format!("  mark {mark} is {object}"),
         }
     }
 }
@@ -102,6 +113,10 @@ pub fn report() -> Result<Vec<String>, BuildError> {
     lines.extend(club.told(&club.decide(&club.rowers, &club.recorded)?));
     lines.push("The recorded in a list of the rowers:".to_string());
     lines.extend(club.told(&club.decide(&club.recorded, &club.rowers)?));
+    lines.push("Those present, in the list of the recorded:".to_string());
+    lines.extend(club.told(&club.decide(&club.present, &club.recorded)?));
+    lines.push("Those present, in a list of the rowers:".to_string());
+    lines.extend(club.told(&club.decide(&club.present, &club.rowers)?));
     Ok(lines)
 }
 

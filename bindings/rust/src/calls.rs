@@ -1,4 +1,4 @@
-//! The ten calls, on records of any words and on built ones.
+//! The eleven calls, on records of any words and on built ones.
 
 use crate::catalogued::Catalogued;
 use crate::concept::{Query, View};
@@ -14,14 +14,16 @@ use crate::state::{Object, State};
 #[must_use]
 pub enum Decision {
     /// In every legal state, of any size, each object of the query is in the
-    /// view. So the view's list has every object of the query, and it may have
-    /// more: filter it by the query, unless the view is held by the query too.
+    /// view, whichever objects its marks are. So the view's list has every object
+    /// of the query, and it may have more: filter it by the query, unless the view
+    /// is held by the query too.
     ///
     /// A state that breaks an axiom is not spoken of. The store must keep the
     /// axioms in force, or its lists may lack objects.
     Held,
     /// Some legal state has an object in the query that is outside the view:
-    /// this one, for example. The view must not serve the query.
+    /// this one, for example, which says of each mark that the query uses which
+    /// object it is. The view must not serve the query.
     Open { state: State, object: Object },
     /// The first refusal that applies to the records.
     Refused(Refusal),
@@ -42,16 +44,21 @@ pub enum Legality {
     Broken(usize),
 }
 
-/// What the query names. It is checked by itself: neither a view nor a state is
-/// needed.
+/// What the query, which has no marks, names. It is checked by itself: neither a
+/// view nor a state is needed.
 pub fn check_concept(schema: &[u16], query: &[u16]) -> Result<Named, Refusal> {
     named(|classes, attributes, count| {
         raw::check_concept(schema, query, classes, attributes, count)
     })
 }
 
-/// What the view names. It is checked by itself, like a query but for the steps:
-/// a view may have fewer.
+/// What the query, which may have marks, names. It is checked by itself.
+pub fn check_query(schema: &[u16], query: &[u16]) -> Result<Named, Refusal> {
+    named(|classes, attributes, count| raw::check_query(schema, query, classes, attributes, count))
+}
+
+/// What the view names. It is checked by itself, like a query without marks but
+/// for the steps: a view may have fewer.
 pub fn check_view(schema: &[u16], view: &[u16]) -> Result<Named, Refusal> {
     named(|classes, attributes, count| raw::check_view(schema, view, classes, attributes, count))
 }
@@ -67,14 +74,15 @@ fn named(check: impl FnOnce(&mut u32, &mut u32, &mut u64) -> u16) -> Result<Name
     Ok(named)
 }
 
-/// The objects of the state that are in the query, ascending.
+/// The objects of the state that are in the query, ascending. The query has no
+/// marks.
 pub fn select(schema: &[u16], query: &[u16], state: &[u16]) -> Result<Vec<Object>, Refusal> {
     let mut lent = [0; MAX_OBJECTS as usize];
     Refusal::check(raw::select(schema, query, state, &mut lent, &mut 0))?;
     // Words past the state's objects are left at 0.
-    let marks = (0..).map(Object).zip(lent);
-    let marked = marks.filter(|&(_, mark)| mark == 1);
-    Ok(marked.map(|(object, _)| object).collect())
+    let told = (0..).map(Object).zip(lent);
+    let selected = told.filter(|&(_, word)| word == 1);
+    Ok(selected.map(|(object, _)| object).collect())
 }
 
 /// Whether the state is legal.
@@ -88,7 +96,8 @@ pub fn legal(schema: &[u16], state: &[u16]) -> Result<Legality, Refusal> {
 }
 
 /// The lowest object in the query and outside the view, if the state is legal
-/// and has one.
+/// and has one. The state says which object each mark is that the query uses, and
+/// says so of no other mark.
 pub fn counterexample(
     schema: &[u16],
     query: &[u16],
@@ -102,7 +111,8 @@ pub fn counterexample(
 
 /// How many links of the attribute have their first object in the query, where a
 /// link is a first object with a second as its value: for each object in the
-/// query, how many values it has, summed. The state need not be legal.
+/// query, how many values it has, summed. The query has no marks, and the state
+/// need not be legal.
 pub fn links_by_first(
     schema: &[u16],
     query: &[u16],
@@ -129,7 +139,7 @@ pub fn links_by_second(
     Ok(links)
 }
 
-/// Whether the query may be read from the view.
+/// Whether the query may be read from the view. It may have marks.
 pub fn decide(schema: &[u16], query: &[u16], view: &[u16]) -> Decision {
     let mut lent = vec![0; DECIDE_WORDS];
     let (mut objects, mut found) = (0, 0);
@@ -177,10 +187,19 @@ fn object(number: u64) -> Object {
 /// The same calls on built records. A record that was made for another schema is
 /// refused only if its numbers do not fit this one; otherwise it is read with
 /// this schema's numbers, and the answer is about something else.
+///
+/// A query with marks is refused by [`Schema::check_concept`], [`Schema::select`]
+/// and the counts of links. A state that says which objects marks are is refused
+/// by all but [`Schema::counterexample`].
 impl Schema {
-    /// What the query names.
+    /// What the query, which has no marks, names.
     pub fn check_concept(&self, query: &Query) -> Result<Named, Refusal> {
         check_concept(self.words(), query.words())
+    }
+
+    /// What the query, which may have marks, names.
+    pub fn check_query(&self, query: &Query) -> Result<Named, Refusal> {
+        check_query(self.words(), query.words())
     }
 
     /// What the view names, as a screen that shows the view lists it.
@@ -188,8 +207,8 @@ impl Schema {
         check_view(self.words(), view.words())
     }
 
-    /// The objects of the state that are in the query, ascending. A view may be
-    /// asked for as a query.
+    /// The objects of the state that are in the query, ascending. The query has no
+    /// marks; a view may be asked for as one.
     pub fn select(&self, query: &Query, state: &State) -> Result<Vec<Object>, Refusal> {
         select(self.words(), query.words(), state.words())
     }
@@ -200,7 +219,8 @@ impl Schema {
     }
 
     /// The lowest object in the query and outside the view, if the state is
-    /// legal and has one.
+    /// legal and has one. Just the marks that the query uses must have an object
+    /// in the state.
     pub fn counterexample(
         &self,
         query: &Query,
@@ -211,8 +231,8 @@ impl Schema {
     }
 
     /// How many links of the attribute have their first object in the query: for
-    /// each object in the query, how many values it has, summed. The state need
-    /// not be legal.
+    /// each object in the query, how many values it has, summed. The query has no
+    /// marks, and the state need not be legal.
     pub fn links_by_first(
         &self,
         query: &Query,
@@ -233,8 +253,8 @@ impl Schema {
         links_by_second(self.words(), query.words(), state.words(), number)
     }
 
-    /// Whether the query may be read from the view; see [`Decision::Held`] for
-    /// what that allows.
+    /// Whether the query, which may have marks, may be read from the view; see
+    /// [`Decision::Held`] for what that allows.
     pub fn decide(&self, query: &Query, view: &View) -> Decision {
         decide(self.words(), query.words(), view.words())
     }

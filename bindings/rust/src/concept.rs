@@ -1,11 +1,47 @@
 //! Concepts and paths, and the queries and views made from them.
 
-use crate::calls::{check_concept, check_view};
+use crate::calls::{check_query, check_view};
 use crate::error::{BuildError, Item};
 use crate::layout::{self, token, Pair};
-use crate::layout::{CONCEPT, MAX_TOKENS, QUERY_STEPS, VIEW_STEPS};
+use crate::layout::{CONCEPT, MAX_MARKS, MAX_TOKENS, QUERY_STEPS, VIEW_STEPS};
 use crate::refusal::Refusal;
-use crate::schema::{Attribute, Class, Constant, Schema};
+use crate::schema::{check, Attribute, Class, Constant, Schema};
+
+/// A mark of a query, by its number, which is below [`MAX_MARKS`]. All places of a
+/// query with the same mark are the same object; different marks may be one object.
+///
+/// ```
+/// use bikuvoa::{Concept, Mark, Path, Query, SchemaBuilder, View};
+///
+/// # fn main() -> Result<(), bikuvoa::BuildError> {
+/// let mut builder = SchemaBuilder::new();
+/// let wearer = builder.attribute("wearer")?;
+/// let stroke = builder.attribute("stroke")?;
+/// let schema = builder.build();
+/// let to = |attribute, landing| Path::empty().forward(attribute, landing);
+/// let asked = |one: Mark, other: Mark| {
+///     let worn = Concept::reached(to(wearer, Concept::mark(one)));
+///     let stroked = Concept::reached(to(stroke, Concept::mark(other)));
+///     Query::new(&schema, &Concept::both(worn, stroked))
+/// };
+///
+/// // Those whose wearer is also their stroke.
+/// let (any, else_any) = (Concept::everything(), Concept::everything());
+/// let same = Concept::common(to(wearer, any), to(stroke, else_any));
+/// let view = View::new(&schema, &same)?;
+/// assert_eq!(schema.holds(&asked(Mark(0), Mark(0))?, &view), Ok(true));
+/// assert_eq!(schema.holds(&asked(Mark(0), Mark(1))?, &view), Ok(false));
+/// # Ok(())
+/// # }
+/// ```
+#[derive(Clone, Copy, Debug, PartialEq, Eq, PartialOrd, Ord, Hash)]
+pub struct Mark(pub u16);
+
+impl Mark {
+    pub(crate) fn check(self) -> Result<(), BuildError> {
+        check(Item::Mark, self.0, MAX_MARKS)
+    }
+}
 
 /// A token of a concept in postfix order: what it works on stands before it.
 #[derive(Clone, Copy, Debug, PartialEq, Eq, Hash)]
@@ -19,6 +55,7 @@ pub enum Token {
     Backward(Attribute),
     Reached,
     Common,
+    Mark(Mark),
 }
 
 impl Token {
@@ -34,6 +71,7 @@ impl Token {
             Token::Backward(attribute) => token::backward(attribute.0),
             Token::Reached => token::REACHED,
             Token::Common => token::COMMON,
+            Token::Mark(mark) => token::mark(mark.0),
         }
     }
 
@@ -49,6 +87,7 @@ impl Token {
             (token::BACKWARD, number) => Token::Backward(Attribute(number)),
             token::REACHED => Token::Reached,
             token::COMMON => Token::Common,
+            (token::MARK, number) => Token::Mark(Mark(number)),
             _ => return None,
         })
     }
@@ -77,6 +116,11 @@ impl Concept {
     /// The object that the constant names.
     pub fn constant(constant: Constant) -> Self {
         Concept(vec![Token::Constant(constant)])
+    }
+
+    /// The object of the mark. A query may have marks, and a view none.
+    pub fn mark(mark: Mark) -> Self {
+        Concept(vec![Token::Mark(mark)])
     }
 
     /// The objects that are in each of the two.
@@ -139,6 +183,7 @@ fn encode(schema: &Schema, concept: &Concept, limit: usize) -> Result<Vec<u16>, 
         match token {
             Token::Class(class) => signature.check_class(class)?,
             Token::Constant(constant) => signature.check_constant(constant)?,
+            Token::Mark(mark) => mark.check()?,
             Token::Forward(attribute) | Token::Backward(attribute) => {
                 signature.check_attribute(attribute)?;
             }
@@ -160,7 +205,8 @@ fn decode(words: &[u16]) -> Concept {
     Concept(entries.filter_map(Token::from_words).collect())
 }
 
-/// A query whose record is accepted under the schema that it was made for.
+/// A query whose record is accepted under the schema that it was made for. It may
+/// have marks; then it can be decided on, and no objects can be selected by it.
 #[derive(Clone, Debug, PartialEq, Eq, Hash)]
 pub struct Query(Vec<u16>);
 
@@ -172,7 +218,7 @@ impl Query {
 
     /// The query of a record, which the library checks.
     pub fn from_words(schema: &Schema, words: Vec<u16>) -> Result<Self, Refusal> {
-        check_concept(schema.words(), &words)?;
+        check_query(schema.words(), &words)?;
         Ok(Query(words))
     }
 
@@ -191,8 +237,13 @@ impl Query {
 pub struct View(Vec<u16>);
 
 impl View {
-    /// A view may have [`VIEW_STEPS`] steps.
+    /// A view may have [`VIEW_STEPS`] steps, and no marks.
     pub fn new(schema: &Schema, concept: &Concept) -> Result<Self, BuildError> {
+        for &token in concept.tokens() {
+            if let Token::Mark(mark) = token {
+                return Err(BuildError::MarkInView(mark));
+            }
+        }
         encode(schema, concept, VIEW_STEPS).map(View)
     }
 
@@ -212,7 +263,7 @@ impl View {
     }
 }
 
-/// A view may be asked for as a query: it has no more steps than one.
+/// A view may be asked for as a query: it has no more steps than one, and no marks.
 impl From<View> for Query {
     fn from(View(words): View) -> Self {
         Query(words)

@@ -1,5 +1,6 @@
 //! What a builder does not build.
 
+use crate::concept::Mark;
 use crate::schema::Constant;
 use crate::state::Object;
 use std::error::Error;
@@ -11,6 +12,7 @@ pub enum Item {
     Class,
     Attribute,
     Constant,
+    Mark,
     Axiom,
     Token,
     Step,
@@ -25,7 +27,8 @@ pub enum Item {
 pub enum BuildError {
     /// More than the limit.
     TooMany { what: Item, limit: usize },
-    /// A number that is not below the count of what is declared.
+    /// A number that is not below the count of what is declared, of the objects, or
+    /// of the marks.
     Undeclared { what: Item, number: u16 },
     /// A name that is not declared.
     UnknownName { what: Item, name: String },
@@ -37,6 +40,10 @@ pub enum BuildError {
     NamedByTwo(Object),
     /// The state is complete but for the constant's object.
     NamesNone(Constant),
+    /// The mark is another object already.
+    TwoChoices(Mark),
+    /// A query may have marks, and a view none.
+    MarkInView(Mark),
 }
 
 impl fmt::Display for Item {
@@ -45,6 +52,7 @@ impl fmt::Display for Item {
             Item::Class => "class",
             Item::Attribute => "attribute",
             Item::Constant => "constant",
+            Item::Mark => "mark",
             Item::Axiom => "axiom",
             Item::Token => "token",
             Item::Step => "step",
@@ -77,6 +85,12 @@ impl fmt::Display for BuildError {
             }
             BuildError::NamesNone(Constant(number)) => {
                 write!(f, "constant {number} names no object")
+            }
+            BuildError::TwoChoices(Mark(number)) => {
+                write!(f, "mark {number} is another object already")
+            }
+            BuildError::MarkInView(Mark(number)) => {
+                write!(f, "mark {number} may stand in a query, and in no view")
             }
         }
     }

@@ -16,6 +16,7 @@ use std::slice::Iter;
 pub const MAX_CLASSES: u16 = 24;
 pub const MAX_ATTRIBUTES: u16 = 8;
 pub const MAX_CONSTANTS: u16 = 4;
+pub const MAX_MARKS: u16 = 4;
 pub const MAX_AXIOMS: usize = 96;
 pub const MAX_TOKENS: usize = 64;
 /// The most steps of a query.
@@ -26,10 +27,12 @@ pub const VIEW_STEPS: usize = 6;
 pub const MAX_VIEWS: usize = 16;
 pub const MAX_OBJECTS: u16 = 480;
 /// Each object in every class and once the first of a pair of every attribute,
-/// a pair for each step of a query, and a name for each constant.
+/// a pair for each step of a query, a name for each constant, and an object for
+/// each mark.
 pub const MAX_FACTS: usize = MAX_OBJECTS as usize * (MAX_CLASSES + MAX_ATTRIBUTES) as usize
     + QUERY_STEPS
-    + MAX_CONSTANTS as usize;
+    + MAX_CONSTANTS as usize
+    + MAX_MARKS as usize;
 
 /// The words of the largest state, which is the least number of words to lend
 /// for a decision.
@@ -269,6 +272,7 @@ pub mod token {
     pub const BACKWARD: u16 = 7;
     pub const REACHED: Pair = (8, 0);
     pub const COMMON: Pair = (9, 0);
+    pub const MARK: u16 = 10;
 
     pub const fn class(number: u16) -> Pair {
         (CLASS, number)
@@ -276,6 +280,12 @@ pub mod token {
 
     pub const fn constant(number: u16) -> Pair {
         (CONSTANT, number)
+    }
+
+    /// A query for a decision or a counterexample may have marks, and no other
+    /// concept.
+    pub const fn mark(number: u16) -> Pair {
+        (MARK, number)
     }
 
     pub const fn forward(attribute: u16) -> Pair {
@@ -288,7 +298,7 @@ pub mod token {
 
     /// Whether the token puts a concept and takes nothing for it.
     pub const fn is_leaf((sort, _): Pair) -> bool {
-        sort == CLASS || sort == EVERYTHING.0 || sort == CONSTANT
+        sort == CLASS || sort == EVERYTHING.0 || sort == CONSTANT || sort == MARK
     }
 
     pub const fn is_step((sort, _): Pair) -> bool {
@@ -297,16 +307,18 @@ pub mod token {
 }
 
 /// The words of a fact. The kinds are the classes, then the attributes, then
-/// the constants.
+/// the constants, then the marks.
 pub mod fact {
-    use super::{join, Pair, MAX_ATTRIBUTES, MAX_CLASSES, MAX_CONSTANTS};
+    use super::{join, Pair, MAX_ATTRIBUTES, MAX_CLASSES, MAX_CONSTANTS, MAX_MARKS};
 
     /// The first kind of an attribute.
     pub const ATTRIBUTE_KINDS: u16 = MAX_CLASSES;
     /// The first kind of a constant.
     pub const CONSTANT_KINDS: u16 = ATTRIBUTE_KINDS + MAX_ATTRIBUTES;
+    /// The first kind of a mark.
+    pub const MARK_KINDS: u16 = CONSTANT_KINDS + MAX_CONSTANTS;
     /// Every kind is below this.
-    pub const FACT_KINDS: u16 = CONSTANT_KINDS + MAX_CONSTANTS;
+    pub const FACT_KINDS: u16 = MARK_KINDS + MAX_MARKS;
 
     /// The object in a left word is below this.
     const OBJECT_PART: u16 = 512;
@@ -325,6 +337,12 @@ pub mod fact {
     /// The constant names the object.
     pub const fn name(constant: u16, object: u16) -> Pair {
         let kind = CONSTANT_KINDS.wrapping_add(constant);
+        (join(kind, object, OBJECT_PART), 0)
+    }
+
+    /// The mark is the object.
+    pub const fn choice(mark: u16, object: u16) -> Pair {
+        let kind = MARK_KINDS.wrapping_add(mark);
         (join(kind, object, OBJECT_PART), 0)
     }
 

@@ -56,11 +56,18 @@
 //! The library takes records of 16-bit words (docs/RECORDS.md).
 //! [`SchemaBuilder`], [`Query`], [`View`] and [`StateBuilder`] make records that
 //! it accepts; what cannot be is a [`BuildError`]. The functions
-//! [`check_concept`], [`check_view`], [`select`], [`legal`], [`counterexample`],
-//! [`links_by_first`], [`links_by_second`], [`decide`], [`holds`] and [`catalogue`]
-//! take any words; a faulty record, or an attribute that is not declared, is a
-//! [`Refusal`]. [`raw`] has the ten calls as C has them, and [`layout`] the numbers
-//! of the format.
+//! [`check_concept`], [`check_query`], [`check_view`], [`select`], [`legal`],
+//! [`counterexample`], [`links_by_first`], [`links_by_second`], [`decide`], [`holds`]
+//! and [`catalogue`] take any words; a faulty record, or an attribute that is not
+//! declared, is a [`Refusal`]. [`raw`] has the eleven calls as C has them, and
+//! [`layout`] the numbers of the format.
+//!
+//! # Marks
+//!
+//! A [`Mark`] is the same object wherever it stands in a query. [`decide`], [`holds`],
+//! [`counterexample`] and [`check_query`] take queries with marks, and the state of a
+//! counterexample says which objects they are. Every other call refuses such queries
+//! and such states.
 //!
 //! # Linking
 //!
@@ -90,12 +97,10 @@ mod refusal;
 mod schema;
 mod state;
 
-pub use calls::{
-    catalogue, check_concept, check_view, counterexample, decide, holds, legal, select,
-};
-pub use calls::{links_by_first, links_by_second, Decision, Legality};
+pub use calls::{catalogue, check_concept, check_query, check_view, counterexample, decide};
+pub use calls::{holds, legal, links_by_first, links_by_second, select, Decision, Legality};
 pub use catalogued::Catalogued;
-pub use concept::{Concept, Path, Query, Token, View};
+pub use concept::{Concept, Mark, Path, Query, Token, View};
 pub use error::{BuildError, Item};
 pub use layout::Signature;
 pub use named::Named;

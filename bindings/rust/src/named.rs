@@ -3,7 +3,8 @@
 use crate::schema::{Attribute, Class};
 
 /// The classes and attributes that the tokens of a concept name. "Everything"
-/// names nothing, constants are no names, and what axioms mention does not count.
+/// names nothing, constants and marks are no names, and what axioms mention does
+/// not count.
 #[derive(Clone, Copy, Debug, Default, PartialEq, Eq)]
 pub struct Named {
     /// Bit A, counted from the lowest, is 1 exactly if class A is named.

@@ -1,4 +1,4 @@
-//! The ten functions as C has them (include/bikuvoa.h), on slices: any words
+//! The eleven functions as C has them (include/bikuvoa.h), on slices: any words
 //! may be passed. Each returns 0, or the number of the first refusal that
 //! applies; a refused call alters no lent word and no out value.
 //!
@@ -6,6 +6,16 @@
 
 extern "C" {
     fn bikuvoa_check_concept(
+        schema: *const u16,
+        schema_words: usize,
+        query: *const u16,
+        query_words: usize,
+        classes: *mut u32,
+        attributes: *mut u32,
+        named: *mut u64,
+    ) -> u16;
+
+    fn bikuvoa_check_query(
         schema: *const u16,
         schema_words: usize,
         query: *const u16,
@@ -119,11 +129,11 @@ extern "C" {
 /// standard library has more unless it was made with less.
 pub const STACK_BYTES: usize = 512 * 1024;
 
-/// Checks a query by itself and tells what it names. `classes` becomes its class
-/// set: bit A, counted from the lowest, is 1 exactly if a token names class A.
-/// `attributes` becomes its attribute set, where bit P is 1 exactly if a step
-/// names attribute P. `named` becomes how many classes are named, each counted
-/// once.
+/// Checks a query without marks by itself and tells what it names. `classes`
+/// becomes its class set: bit A, counted from the lowest, is 1 exactly if a token
+/// names class A. `attributes` becomes its attribute set, where bit P is 1 exactly
+/// if a step names attribute P. `named` becomes how many classes are named, each
+/// counted once. Refused as 4 if it has a mark.
 pub fn check_concept(
     schema: &[u16],
     query: &[u16],
@@ -134,6 +144,29 @@ pub fn check_concept(
     // SAFETY: as for `select`.
     unsafe {
         bikuvoa_check_concept(
+            schema.as_ptr(),
+            schema.len(),
+            query.as_ptr(),
+            query.len(),
+            classes,
+            attributes,
+            named,
+        )
+    }
+}
+
+/// The same as `check_concept`, of a query that may have marks: refused as 4 only
+/// if a mark is above the last.
+pub fn check_query(
+    schema: &[u16],
+    query: &[u16],
+    classes: &mut u32,
+    attributes: &mut u32,
+    named: &mut u64,
+) -> u16 {
+    // SAFETY: as for `select`.
+    unsafe {
+        bikuvoa_check_query(
             schema.as_ptr(),
             schema.len(),
             query.as_ptr(),
@@ -168,9 +201,9 @@ pub fn check_view(
     }
 }
 
-/// Lent word i becomes 1 if object i is in the query and 0 if not, for each
-/// object of the state; later words are unaltered. `selected` becomes how many
-/// are. Refused as 11 if there are fewer lent words than objects.
+/// Lent word i becomes 1 if object i is in the query, which has no marks, and 0 if
+/// not, for each object of the state; later words are unaltered. `selected` becomes
+/// how many are. Refused as 11 if there are fewer lent words than objects.
 pub fn select(
     schema: &[u16],
     query: &[u16],
@@ -212,7 +245,9 @@ pub fn legal(schema: &[u16], state: &[u16], broken: &mut u64) -> u16 {
 }
 
 /// `found` becomes o + 1, where o is the lowest object in the query and outside
-/// the view, if the state is legal and has one, and otherwise 0.
+/// the view, if the state is legal and has one, and otherwise 0. The state says
+/// which object each mark is: refused as 10 if a mark that the query uses has no
+/// object or several, and as 8 if another mark has one.
 pub fn counterexample(
     schema: &[u16],
     query: &[u16],
@@ -237,9 +272,9 @@ pub fn counterexample(
 }
 
 /// A link is a pair of the attribute: a first object with a second as its value.
-/// `links` becomes how many links have their first object in the query: for each
-/// object in the query, how many values of the attribute it has, summed. Refused
-/// as 12 if the attribute is not declared.
+/// `links` becomes how many links have their first object in the query, which has
+/// no marks: for each object in the query, how many values of the attribute it has,
+/// summed. Refused as 12 if the attribute is not declared.
 pub fn links_by_first(
     schema: &[u16],
     query: &[u16],
@@ -287,11 +322,12 @@ pub fn links_by_second(
     }
 }
 
-/// If the view holds the query, `objects` becomes 0 and no lent word is
-/// altered. Otherwise the lent words begin with the record of a legal state of
-/// that many objects, in which `object` is in the query and outside the view;
-/// words after that record are unaltered. Refused as 11 if there are fewer lent
-/// words than [`DECIDE_WORDS`](crate::layout::DECIDE_WORDS).
+/// If the view holds the query whichever objects its marks are, `objects` becomes 0
+/// and no lent word is altered. Otherwise the lent words begin with the record of a
+/// legal state of that many objects, in which `object` is in the query and outside
+/// the view, with an object for each mark that the query uses; words after that
+/// record are unaltered. Refused as 11 if there are fewer lent words than
+/// [`DECIDE_WORDS`](crate::layout::DECIDE_WORDS).
 pub fn decide(
     schema: &[u16],
     query: &[u16],

@@ -65,7 +65,7 @@ impl Refusal {
                 "query or view: cut off, no token, too many, or a length that does not fit the count of tokens"
             }
             Refusal::BAD_TOKEN => {
-                "query or view: a token of unknown sort, or with an argument that is not declared or should be 0"
+                "query or view: a token of unknown sort, with an argument that is not declared or should be 0, or a mark where none may be"
             }
             Refusal::BAD_PILE => {
                 "query or view: a token without the concepts or paths that it takes, or not one concept at the end"
@@ -77,13 +77,13 @@ impl Refusal {
                 "state: cut off, a size above its limit, or a length that does not fit the count of facts"
             }
             Refusal::BAD_FACT => {
-                "state: a fact of a kind that is not declared, with an object that is not there, or with a right word that should be 0"
+                "state: a fact of a kind that is not declared or of a mark that is not used, with an object that is not there, or with a right word that should be 0"
             }
             Refusal::BAD_ORDER => {
                 "state: facts that do not ascend, or a fact twice"
             }
             Refusal::BAD_CONSTANTS => {
-                "state: a declared constant without an object or with several, or two that are not loose with the same object"
+                "state: a declared constant or a used mark without an object or with several, or two constants that are not loose with the same object"
             }
             Refusal::FEW_LENT_WORDS => {
                 "lent words: too few"
@@ -95,7 +95,7 @@ impl Refusal {
                 "catalogue: no view, too many, or a length that does not fit the count and the length words"
             }
             Refusal::BAD_LOOSE => {
-                "schema: a constant that is marked loose and not declared"
+                "schema: a constant that is loose and not declared"
             }
             // A library later than this crate may have more of them.
             _ => "a refusal that is not known here",

@@ -1,9 +1,10 @@
 //! States: the facts about some objects.
 
+use crate::calls::counterexample;
+use crate::concept::Mark;
 use crate::error::{BuildError, Item};
 use crate::layout::{self, fact, token, Pair, Signature};
 use crate::layout::{MAX_FACTS, MAX_OBJECTS, STATE};
-use crate::raw;
 use crate::refusal::Refusal;
 use crate::schema::{check, Attribute, Class, Constant, Schema};
 use std::collections::{BTreeMap, BTreeSet};
@@ -25,6 +26,8 @@ pub enum Fact {
     },
     /// The constant names the object.
     Name { constant: Constant, object: Object },
+    /// The mark is the object.
+    Choice { mark: Mark, object: Object },
 }
 
 impl Fact {
@@ -38,6 +41,7 @@ impl Fact {
                 second,
             } => fact::pair(attribute.0, first.0, second.0),
             Fact::Name { constant, object } => fact::name(constant.0, object.0),
+            Fact::Choice { mark, object } => fact::choice(mark.0, object.0),
         }
     }
 
@@ -54,12 +58,24 @@ impl Fact {
                 first: object,
                 second: Object(words.1),
             },
-            fact::CONSTANT_KINDS..fact::FACT_KINDS => Fact::Name {
+            fact::CONSTANT_KINDS..fact::MARK_KINDS => Fact::Name {
                 constant: Constant(kind - fact::CONSTANT_KINDS),
+                object,
+            },
+            fact::MARK_KINDS..fact::FACT_KINDS => Fact::Choice {
+                mark: Mark(kind - fact::MARK_KINDS),
                 object,
             },
             _ => return None,
         })
+    }
+
+    /// The mark whose object this says.
+    fn mark(self) -> Option<Mark> {
+        match self {
+            Fact::Choice { mark, .. } => Some(mark),
+            _ => None,
+        }
     }
 }
 
@@ -70,6 +86,7 @@ pub struct StateBuilder {
     objects: u16,
     facts: BTreeSet<Pair>,
     names: BTreeMap<Constant, Object>,
+    choices: BTreeMap<Mark, Object>,
 }
 
 impl StateBuilder {
@@ -80,6 +97,7 @@ impl StateBuilder {
             objects: 0,
             facts: BTreeSet::new(),
             names: BTreeMap::new(),
+            choices: BTreeMap::new(),
         }
     }
 
@@ -117,6 +135,14 @@ impl StateBuilder {
                 self.check_object(object)?;
                 self.check_name(constant, object)?;
             }
+            Fact::Choice { mark, object } => {
+                mark.check()?;
+                self.check_object(object)?;
+                let known = self.choices.get(&mark);
+                if known.is_some_and(|&known| known != object) {
+                    return Err(BuildError::TwoChoices(mark));
+                }
+            }
         }
         let words = fact.words();
         if self.facts.len() == MAX_FACTS && !self.facts.contains(&words) {
@@ -126,8 +152,14 @@ impl StateBuilder {
             });
         }
         self.facts.insert(words);
-        if let Fact::Name { constant, object } = fact {
-            self.names.insert(constant, object);
+        match fact {
+            Fact::Name { constant, object } => {
+                self.names.insert(constant, object);
+            }
+            Fact::Choice { mark, object } => {
+                self.choices.insert(mark, object);
+            }
+            Fact::Member { .. } | Fact::Pair { .. } => {}
         }
         Ok(self)
     }
@@ -157,7 +189,14 @@ impl StateBuilder {
         self.fact(Fact::Name { constant, object })
     }
 
-    /// The state so far, if each declared constant names its object.
+    /// Says [`Fact::Choice`]. Each mark is one object, and different marks may be
+    /// the same.
+    pub fn choose(&mut self, mark: Mark, object: Object) -> Result<&mut Self, BuildError> {
+        self.fact(Fact::Choice { mark, object })
+    }
+
+    /// The state so far, if each declared constant names its object. Marks need
+    /// not have one: which must depends on the query.
     pub fn build(&self) -> Result<State, BuildError> {
         let mut constants = (0..self.signature.constants).map(Constant);
         if let Some(constant) = constants.find(|constant| !self.names.contains_key(constant)) {
@@ -186,19 +225,27 @@ impl StateBuilder {
 }
 
 /// A state whose record is accepted under the schema that it was made for. It
-/// need not be legal.
+/// need not be legal. If it says which objects marks are, it can be a
+/// counterexample for a query that uses just these marks, and every other call
+/// refuses it.
 #[derive(Clone, Debug, PartialEq, Eq, Hash)]
 pub struct State(pub(crate) Vec<u16>);
 
 impl State {
     /// The state of a record, which the library checks.
     pub fn from_words(schema: &Schema, words: Vec<u16>) -> Result<Self, Refusal> {
-        // To lend no words is refused, but only after the state is accepted; if
-        // it has no objects, no words are enough.
+        let state = State(words);
+        // Whether a fact of a mark is accepted is up to the query, so this one
+        // uses just the marks that have such facts.
+        let marks: BTreeSet<Mark> = state.facts().filter_map(Fact::mark).collect();
+        let mut tokens = vec![token::EVERYTHING];
+        for Mark(number) in marks {
+            tokens.extend([token::mark(number), token::BOTH]);
+        }
+        let query = layout::concept(&tokens);
         let everything = layout::concept(&[token::EVERYTHING]);
-        let returned = raw::select(schema.words(), &everything, &words, &mut [], &mut 0);
-        Refusal::check_before(Refusal::FEW_LENT_WORDS, returned)?;
-        Ok(State(words))
+        counterexample(schema.words(), &query, &everything, state.words())?;
+        Ok(state)
     }
 
     /// The record.
@@ -211,7 +258,7 @@ impl State {
         layout::objects(&self.0).unwrap_or(0)
     }
 
-    /// The facts in the order of the record: members, pairs, names.
+    /// The facts in the order of the record: members, pairs, names, choices.
     pub fn facts(&self) -> impl Iterator<Item = Fact> + '_ {
         let entries = STATE.entries(&self.0).into_iter().flatten();
         entries.filter_map(Fact::from_words)

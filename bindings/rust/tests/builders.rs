@@ -1,7 +1,9 @@
 //! What builders take comes out again, and what cannot be is turned down.
 
-use bikuvoa::{Attribute, Axiom, BuildError, Class, Concept, Constant, Fact, Item, Object, Path};
-use bikuvoa::{Query, Schema, SchemaBuilder, Signature, State, StateBuilder, Token, View};
+use bikuvoa::layout::MAX_MARKS;
+use bikuvoa::{Attribute, Axiom, BuildError, Class, Concept, Constant, Fact, Item, Mark, Object};
+use bikuvoa::{Path, Query, Refusal, Schema, SchemaBuilder, Signature, State, StateBuilder};
+use bikuvoa::{Token, View};
 
 /// Classes Strap and Person, the attribute wears, and the constant captain.
 fn straps() -> SchemaBuilder {
@@ -91,7 +93,7 @@ fn loose_constants_are_marked() {
     let mut builder = straps();
     let stroke = builder.constant("stroke").expect("a constant");
     let guest = builder.constant("guest").expect("a constant");
-    builder.loose(stroke).expect("a mark");
+    builder.loose(stroke).expect("a constant");
     let schema = builder.build();
     let words = [2, 1, 3, 2, 0b010, 1025, 1280, 0, 256];
     assert_eq!(schema.words(), words);
@@ -102,7 +104,7 @@ fn loose_constants_are_marked() {
 
     // A constant may be marked twice.
     for constant in [guest, stroke] {
-        builder.loose(constant).expect("a mark");
+        builder.loose(constant).expect("a constant");
     }
     assert_eq!(builder.build().words()[..5], [2, 1, 3, 2, 0b110]);
     for number in [3, 4, 15, 16, 17, u16::MAX] {
@@ -240,6 +242,35 @@ fn queries_and_views_come_out_again() {
 }
 
 #[test]
+fn a_query_has_marks_and_a_view_none() {
+    let schema = straps().build();
+    let path = Path::empty().forward(WEARS, Concept::mark(Mark(3)));
+    let concept = Concept::both(Concept::mark(Mark(2)), Concept::reached(path));
+    let expected = [
+        Token::Mark(Mark(2)),
+        Token::Empty,
+        Token::Mark(Mark(3)),
+        Token::Forward(WEARS),
+        Token::Reached,
+        Token::Both,
+    ];
+    assert_eq!(concept.tokens(), expected);
+    let query = Query::new(&schema, &concept).expect("a query");
+    let words = [6, 1, 10, 5, 10, 6, 8, 4, 2, 0, 3, 0, 0, 0];
+    assert_eq!(query.words(), words);
+    assert_eq!(query.concept(), concept);
+    let read = Query::from_words(&schema, words.to_vec());
+    assert_eq!(read, Ok(query));
+
+    let unmarked = BuildError::MarkInView(Mark(2));
+    let told = "mark 2 may stand in a query, and in no view";
+    assert_eq!(unmarked.to_string(), told);
+    assert_eq!(View::new(&schema, &concept), Err(unmarked));
+    let refused = View::from_words(&schema, words.to_vec());
+    assert_eq!(refused, Err(Refusal::BAD_TOKEN));
+}
+
+#[test]
 fn concepts_name_what_is_declared() {
     let schema = straps().build();
     for (concept, what, number) in [
@@ -324,6 +355,39 @@ fn a_state_has_its_facts_in_order() {
     assert_eq!(state.facts().next(), Some(first));
     let read = State::from_words(&straps().build(), words.to_vec());
     assert_eq!(read, Ok(state));
+}
+
+/// Marks are told after the names, and two of them may be one object.
+#[test]
+fn a_state_has_the_objects_of_marks() {
+    let mut builder = worn();
+    for (mark, object) in [(3, 2), (0, 1), (1, 2), (0, 1)] {
+        builder.choose(Mark(mark), Object(object)).expect("a fact");
+    }
+    let state = builder.build().expect("a state");
+    assert_eq!(state.words()[..2], [3, 9]);
+    assert_eq!(state.words()[7..11], [16384, 18433, 18946, 19970]);
+    assert_eq!(state.words()[17..], [0; 3]);
+    let choices: Vec<Fact> = state.facts().skip(6).collect();
+    let expected = [(0, 1), (1, 2), (3, 2)].map(|(mark, object)| Fact::Choice {
+        mark: Mark(mark),
+        object: Object(object),
+    });
+    assert_eq!(choices, expected);
+    let read = State::from_words(&straps().build(), state.words().to_vec());
+    assert_eq!(read.as_ref(), Ok(&state));
+
+    let two = BuildError::TwoChoices(Mark(0));
+    assert_eq!(two.to_string(), "mark 0 is another object already");
+    let other = builder.choose(Mark(0), Object(2)).map(|_| ());
+    assert_eq!(other, Err(two));
+    let no_object = builder.choose(Mark(2), Object(3)).map(|_| ());
+    assert_eq!(no_object, undeclared(Item::Object, 3));
+    let no_mark = builder.choose(Mark(MAX_MARKS), Object(0)).map(|_| ());
+    assert_eq!(no_mark, undeclared(Item::Mark, MAX_MARKS));
+    let told = no_mark.expect_err("no mark").to_string();
+    assert_eq!(told, "there is no mark 4");
+    assert_eq!(builder.build(), Ok(state));
 }
 
 #[test]

@@ -2,9 +2,9 @@
 //! on raw words, and threads.
 
 use bikuvoa::layout::{self, axiom, fact, token, Signature};
-use bikuvoa::{catalogue, check_concept, check_view, counterexample, decide, holds, legal, raw};
-use bikuvoa::{links_by_first, links_by_second, select};
-use bikuvoa::{Attribute, Class, Concept, Constant, Decision, Legality, Named, Object, Path};
+use bikuvoa::{catalogue, check_concept, check_query, check_view, counterexample, decide};
+use bikuvoa::{holds, legal, links_by_first, links_by_second, raw, select};
+use bikuvoa::{Attribute, Class, Concept, Constant, Decision, Legality, Mark, Named, Object, Path};
 use bikuvoa::{Query, Refusal, Schema, SchemaBuilder, State, StateBuilder, View};
 
 const STRAP: Class = Class(0);
@@ -216,6 +216,7 @@ fn the_names_in_concepts() {
         };
         let query = Query::new(&schema, &concept).expect("a query");
         assert_eq!(schema.check_concept(&query), Ok(named), "{concept:?}");
+        assert_eq!(schema.check_query(&query), Ok(named), "{concept:?}");
         let view = View::new(&schema, &concept).expect("a view");
         assert_eq!(schema.check_view(&view), Ok(named), "{concept:?}");
     }
@@ -303,6 +304,8 @@ fn faulty_concepts() -> Vec<(u16, Vec<u16>)> {
         (3, layout::concept(&[])),
         (3, cut(words().concept)),
         (4, layout::concept(&[token::class(STRAPS.classes)])),
+        (4, layout::concept(&[token::mark(layout::MAX_MARKS)])),
+        (4, layout::concept(&[(token::MARK + 1, 0)])),
         (4, layout::concept(&[(token::EVERYTHING.0, 1)])),
         // Of several faults the one with the lowest number is told.
         (4, layout::concept(&[token::BOTH, (token::BOTH.0, 1)])),
@@ -321,6 +324,10 @@ fn faulty_states() -> Vec<(u16, Vec<u16>)> {
         (7, cut(words().state)),
         (8, layout::state(1, &[fact::member(0, 1), one])),
         (8, layout::state(1, &[fact::member(STRAPS.classes, 0), one])),
+        (
+            8,
+            layout::state(1, &[one, fact::choice(layout::MAX_MARKS, 0)]),
+        ),
         (9, layout::state(1, &[one, one])),
         (10, layout::state(1, &[])),
         (10, layout::state(2, &[one, two])),
@@ -340,11 +347,12 @@ fn counted(schema: &[u16], query: &[u16], state: &[u16], attribute: u16) -> u16 
     by_first
 }
 
-/// What both checks are refused as.
+/// What all three checks are refused as.
 fn checked(schema: &[u16], concept: &[u16]) -> u16 {
     let as_concept = number(check_concept(schema, concept));
+    let as_query = number(check_query(schema, concept));
     let as_view = number(check_view(schema, concept));
-    assert_eq!(as_concept, as_view);
+    assert_eq!([as_query, as_view], [as_concept; 2]);
     as_concept
 }
 
@@ -475,7 +483,7 @@ fn a_refused_check_alters_nothing() {
     let Words {
         schema, concept, ..
     } = words();
-    for check in [raw::check_concept, raw::check_view] {
+    for check in [raw::check_concept, raw::check_query, raw::check_view] {
         let (mut classes, mut attributes, mut named) = (97, 98, 99);
         let mut check = |schema: &[u16], concept: &[u16]| {
             let returned = check(schema, concept, &mut classes, &mut attributes, &mut named);
@@ -545,6 +553,7 @@ fn a_record_of_another_schema_is_refused() {
     assert_eq!(number(other.links_by_first(&query, &state, WEARS)), 4);
     assert_eq!(number(other.links_by_second(&all, &state, WEARS)), 8);
     assert_eq!(number(other.check_concept(&query)), 4);
+    assert_eq!(number(other.check_query(&query)), 4);
     assert_eq!(number(other.check_view(&view)), 4);
     let decision = other.decide(&query, &view);
     assert!(matches!(decision, Decision::Refused(_)), "{decision:?}");
@@ -552,8 +561,8 @@ fn a_record_of_another_schema_is_refused() {
     assert_eq!(number(other.catalogue(&[view])), 4);
 }
 
-/// A thread with just the stack that is said to be enough decides a deep query
-/// of all the steps that there may be, counts links, tells what is named, and puts
+/// A thread with just the stack that is said to be enough decides deep queries of
+/// all the steps that there may be, counts links, tells what is named, and puts
 /// views of all the steps that there may be in order.
 #[test]
 fn the_stack_is_enough() {
@@ -564,6 +573,16 @@ fn the_stack_is_enough() {
         nested.push(Concept::reached(Path::empty().forward(WEARS, landing)));
     }
     let query = Query::new(&schema, &nested[layout::QUERY_STEPS]).expect("a query");
+    // The farthest landings have marks, as far as there are tokens for them.
+    let mut marked = Concept::class(STRAP);
+    for steps in 0..layout::QUERY_STEPS {
+        if steps < 7 {
+            let mark = Concept::mark(Mark(steps as u16 % layout::MAX_MARKS));
+            marked = Concept::both(marked, mark);
+        }
+        marked = Concept::reached(Path::empty().forward(WEARS, marked));
+    }
+    let marked = Query::new(&schema, &marked).expect("a query");
     let deepest = View::new(&schema, &nested[layout::VIEW_STEPS]).expect("a view");
     let views = vec![deepest; layout::MAX_VIEWS];
     let view = View::new(&schema, &Concept::class(STRAP)).expect("a view");
@@ -574,6 +593,8 @@ fn the_stack_is_enough() {
             let decision = schema.decide(&query, &view);
             assert!(matches!(decision, Decision::Open { .. }), "{decision:?}");
             assert_eq!(schema.holds(&query, &view), Ok(false));
+            let decision = schema.decide(&marked, &view);
+            assert!(matches!(decision, Decision::Open { .. }), "{decision:?}");
             assert_eq!(schema.links_by_first(&query, &state, WEARS), Ok(0));
             assert_eq!(schema.links_by_second(&query, &state, WEARS), Ok(0));
             let count = schema.check_concept(&query).map(|named| named.count);

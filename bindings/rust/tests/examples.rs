@@ -53,18 +53,25 @@ fn the_club_has_the_records_of_the_example() {
 
 /// Which state is shown is the library's choice, so its facts are not compared.
 #[test]
-fn the_club_prints_both_ways() {
+fn the_club_prints_its_decisions() {
     let lines = club::report().expect("a report");
-    let told: Vec<&str> = lines.iter().take(3).map(String::as_str).collect();
+    let answers = lines.iter().filter(|line| !line.starts_with("  "));
+    let verdict = |line: &String| line.split(", object ").next().map(str::to_string);
     let expected = [
         "Rowers in the list of the recorded:",
         "HELD",
         "The recorded in a list of the rowers:",
+        "OPEN",
+        "Those present, in the list of the recorded:",
+        "HELD",
+        "Those present, in a list of the rowers:",
+        "OPEN",
     ];
-    assert_eq!(told, expected);
-    assert!(lines[3].starts_with("OPEN, object "), "{lines:?}");
-    assert!(lines[4..].iter().all(|line| line.starts_with("  ")));
+    assert_eq!(answers.filter_map(verdict).collect::<Vec<_>>(), expected);
     assert!(lines.iter().any(|line| line.ends_with(" is a Person")));
+    // Only the query of those present has a mark, and its object is told last.
+    let told = |line: &String| line.starts_with("  mark 0 is ");
+    assert_eq!(lines.iter().position(told), Some(lines.len() - 1));
 }
 
 #[test]

@@ -33,11 +33,11 @@ fn header_text() -> String {
     read("../../include/bikuvoa.h")
 }
 
-/// The macros and enumerators that are numbers or products of numbers, without
-/// their prefix.
+/// The macros and enumerators that are numbers, or sums of products of numbers and
+/// of earlier ones, without their prefix.
 fn header() -> BTreeMap<String, usize> {
     let text = header_text();
-    let mut numbers = BTreeMap::new();
+    let mut numbers: BTreeMap<String, usize> = BTreeMap::new();
     for line in text.lines() {
         let line = line
             .trim()
@@ -46,11 +46,13 @@ fn header() -> BTreeMap<String, usize> {
         let Some((name, text)) = line.trim_end_matches(',').split_once(' ') else {
             continue;
         };
-        let factors = text
-            .trim_matches(['(', ')'])
-            .split(" * ")
-            .map(str::parse::<usize>);
-        if let (Some(name), Ok(number)) = (name.strip_prefix("BIKUVOA_"), factors.product()) {
+        let factor = |text: &str| match text.strip_prefix("BIKUVOA_") {
+            Some(earlier) => numbers.get(earlier).copied(),
+            None => text.parse().ok(),
+        };
+        let product = |text: &str| text.split(" * ").map(factor).product::<Option<usize>>();
+        let products = text.trim_matches(['(', ')']).split(" + ").map(product);
+        if let (Some(name), Some(number)) = (name.strip_prefix("BIKUVOA_"), products.sum()) {
             numbers.insert(name.to_string(), number);
         }
     }
@@ -67,6 +69,7 @@ fn the_numbers_are_the_headers() {
     same("MAX_CLASSES", layout::MAX_CLASSES.into());
     same("MAX_ATTRIBUTES", layout::MAX_ATTRIBUTES.into());
     same("MAX_CONSTANTS", layout::MAX_CONSTANTS.into());
+    same("MAX_MARKS", layout::MAX_MARKS.into());
     same("MAX_AXIOMS", layout::MAX_AXIOMS);
     same("MAX_TOKENS", layout::MAX_TOKENS);
     same("QUERY_STEPS", layout::QUERY_STEPS);
@@ -83,6 +86,10 @@ fn the_numbers_are_the_headers() {
     same("AT_FACTS", STATE.counter);
     same("BYTE_PART", axiom::subclass(0, 0).0.into());
     same("OBJECT_PART", fact::member(1, 0).0.into());
+    same("ATTRIBUTE_KINDS", fact::ATTRIBUTE_KINDS.into());
+    same("CONSTANT_KINDS", fact::CONSTANT_KINDS.into());
+    same("MARK_KINDS", fact::MARK_KINDS.into());
+    same("FACT_KINDS", fact::FACT_KINDS.into());
     for (name, kind) in [
         ("SUBCLASS", axiom::SUBCLASS),
         ("TYPING", axiom::TYPING),
@@ -98,6 +105,7 @@ fn the_numbers_are_the_headers() {
         ("BACKWARD", token::BACKWARD),
         ("REACHED", token::REACHED.0),
         ("COMMON", token::COMMON.0),
+        ("MARK", token::MARK),
     ] {
         same(name, kind.into());
     }
@@ -189,5 +197,5 @@ fn the_functions_are_the_headers() {
     }
     let raw = declared(&read("src/raw.rs"), "\n    fn bikuvoa_", ") -> u16;");
     assert_eq!(raw, header);
-    assert_eq!(raw.len(), 10, "{:?}", raw.keys());
+    assert_eq!(raw.len(), 11, "{:?}", raw.keys());
 }

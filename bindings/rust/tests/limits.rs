@@ -3,8 +3,9 @@
 
 use bikuvoa::layout::{self, axiom, fact, token, Pair};
 use bikuvoa::layout::{DECIDE_WORDS, MAX_AXIOMS, MAX_FACTS, MAX_OBJECTS, MAX_TOKENS};
-use bikuvoa::layout::{MAX_ATTRIBUTES, MAX_CLASSES, MAX_CONSTANTS, QUERY_STEPS, VIEW_STEPS};
-use bikuvoa::{check_concept, check_view, raw};
+use bikuvoa::layout::{MAX_ATTRIBUTES, MAX_CLASSES, MAX_CONSTANTS, MAX_MARKS};
+use bikuvoa::layout::{QUERY_STEPS, VIEW_STEPS};
+use bikuvoa::{check_concept, check_query, check_view, raw, Mark};
 use bikuvoa::{Attribute, BuildError, Class, Concept, Constant, Item, Named, Object, Path, Query};
 use bikuvoa::{Legality, Refusal, Schema, SchemaBuilder, Signature, State, StateBuilder, View};
 
@@ -30,9 +31,9 @@ fn largest() -> Schema {
 
 #[test]
 fn the_numbers_are_the_formats() {
-    assert_eq!(MAX_FACTS, 15_380);
-    assert_eq!(DECIDE_WORDS, 30_762);
-    assert_eq!(fact::FACT_KINDS, 36);
+    assert_eq!(MAX_FACTS, 15_384);
+    assert_eq!(DECIDE_WORDS, 30_770);
+    assert_eq!((fact::MARK_KINDS, fact::FACT_KINDS), (36, 40));
 }
 
 #[test]
@@ -88,6 +89,36 @@ fn loose_constants() {
             }
         }
     }
+}
+
+/// Marks are not declared: the empty schema has them all.
+#[test]
+fn marks() {
+    let schema = SchemaBuilder::new().build();
+    let mut builder = StateBuilder::new(&schema);
+    let object = builder.object().expect("an object");
+    for mark in (0..MAX_MARKS).map(Mark) {
+        let query = Query::new(&schema, &Concept::mark(mark)).expect("a query");
+        let read = Query::from_words(&schema, query.words().to_vec());
+        assert_eq!(read, Ok(query));
+        builder.choose(mark, object).expect("a fact");
+        let state = builder.build().expect("a state");
+        let read = State::from_words(&schema, state.words().to_vec());
+        assert_eq!(read, Ok(state));
+    }
+
+    for number in [MAX_MARKS, MAX_MARKS + 1, 16, 256, u16::MAX] {
+        let what = Item::Mark;
+        let unknown = BuildError::Undeclared { what, number };
+        let query = Query::new(&schema, &Concept::mark(Mark(number)));
+        assert_eq!(query, Err(unknown.clone()));
+        let words = layout::concept(&[token::mark(number)]);
+        assert_eq!(refused_as(Query::from_words(&schema, words)), Some(4));
+        let chosen = builder.choose(Mark(number), object).map(|_| ());
+        assert_eq!(chosen, Err(unknown));
+    }
+    let words = layout::state(1, &[fact::choice(MAX_MARKS, 0)]);
+    assert_eq!(refused_as(State::from_words(&schema, words)), Some(8));
 }
 
 #[test]
@@ -187,7 +218,7 @@ fn named(classes: &[u16], attributes: &[u16]) -> Named {
 #[test]
 fn names() {
     let schema = layout::schema(LARGEST, &[]);
-    for check in [check_concept, check_view] {
+    for check in [check_concept, check_query, check_view] {
         let of_class = |number| check(&schema, &layout::concept(&[token::class(number)]));
         for class in 0..MAX_CLASSES {
             assert_eq!(of_class(class), Ok(named(&[class], &[])));
@@ -221,6 +252,7 @@ fn steps_of_each_check() {
             }
         };
         assert_eq!(check_concept(&schema, &words), within(QUERY_STEPS));
+        assert_eq!(check_query(&schema, &words), within(QUERY_STEPS));
         assert_eq!(check_view(&schema, &words), within(VIEW_STEPS));
     }
 }
@@ -247,6 +279,7 @@ fn all_names() {
         let expected = Ok(named(&numbers, &numbers[..stepped]));
         let query = Query::new(&schema, &concept).expect("a query");
         assert_eq!(schema.check_concept(&query), expected);
+        assert_eq!(schema.check_query(&query), expected);
         let as_view = check_view(schema.words(), query.words());
         if steps == VIEW_STEPS {
             assert_eq!(as_view, expected);
@@ -315,6 +348,36 @@ fn objects_and_facts() {
     let facts = vec![fact::member(0, 0); MAX_FACTS + 1];
     let words = layout::state(1, &facts);
     assert_eq!(refused_as(State::from_words(&schema, words)), Some(7));
+}
+
+/// The largest state that a decision may need: each mark is an object too.
+#[test]
+fn facts_of_marks() {
+    let schema = largest();
+    let mut builder = full(&schema);
+    let last = Object(MAX_OBJECTS - 1);
+    for mark in (0..MAX_MARKS).map(Mark) {
+        builder.choose(mark, last).expect("a fact");
+    }
+    for second in (1..).map(Object).take(QUERY_STEPS) {
+        builder
+            .pair(Attribute(0), Object(0), second)
+            .expect("a fact");
+    }
+    let one_more = builder.pair(Attribute(0), Object(1), Object(0));
+    assert_eq!(one_more.map(|_| ()), too_many(Item::Fact, MAX_FACTS));
+    builder.choose(Mark(0), last).expect("a fact that is there");
+    let state = builder.build().expect("a state");
+    assert_eq!(state.words().len(), DECIDE_WORDS);
+    let read = State::from_words(&schema, state.words().to_vec());
+    assert_eq!(read.as_ref(), Ok(&state));
+
+    let marks = (0..MAX_MARKS).map(Mark).map(Concept::mark);
+    let all = marks.fold(Concept::everything(), Concept::both);
+    let query = Query::new(&schema, &all).expect("a query");
+    let view = View::new(&schema, &Concept::constant(Constant(0))).expect("a view");
+    let found = schema.counterexample(&query, &view, &state);
+    assert_eq!(found, Ok(Some(last)));
 }
 
 /// As many links as there may be facts.

@@ -1,13 +1,13 @@
 //! Whatever the builders build is accepted, and no words make a call fail in
 //! another way than by a refusal.
 
-use bikuvoa::layout::{self, MAX_ATTRIBUTES, MAX_CLASSES, MAX_CONSTANTS, MAX_VIEWS};
-use bikuvoa::layout::{QUERY_STEPS, VIEW_STEPS};
-use bikuvoa::{catalogue, check_concept, check_view, decide, holds, legal, select};
+use bikuvoa::layout::{self, Pair, MAX_ATTRIBUTES, MAX_CLASSES, MAX_CONSTANTS, MAX_MARKS};
+use bikuvoa::layout::{MAX_VIEWS, QUERY_STEPS, VIEW_STEPS};
+use bikuvoa::{catalogue, check_concept, check_query, check_view, decide, holds, legal, select};
 use bikuvoa::{links_by_first, links_by_second};
-use bikuvoa::{Attribute, Axiom, Class, Concept, Constant, Fact, Object, Path, Signature, Token};
-use bikuvoa::{Decision, Legality, Named, Query, Refusal, Schema, State, View};
-use bikuvoa::{SchemaBuilder, StateBuilder};
+use bikuvoa::{Attribute, Axiom, Class, Concept, Constant, Fact, Mark, Object, Path, Token};
+use bikuvoa::{BuildError, Decision, Legality, Named, Query, Refusal, Schema, Signature, State};
+use bikuvoa::{SchemaBuilder, StateBuilder, View};
 use std::collections::BTreeSet;
 
 const DRAWS: usize = 2_000;
@@ -52,6 +52,18 @@ impl Random {
         Constant(self.near(signature.constants))
     }
 
+    /// With marks or without them.
+    fn drawn(&mut self, schema: &Schema) -> Drawn {
+        Drawn {
+            marks: self.below(2) == 0,
+            ..unmarked(schema)
+        }
+    }
+
+    fn mark(&mut self) -> Mark {
+        Mark(self.near(MAX_MARKS))
+    }
+
     fn near(&mut self, count: u16) -> u16 {
         match self.below(40) {
             0 => count,
@@ -93,31 +105,32 @@ impl Random {
         builder.build()
     }
 
-    fn concept(&mut self, signature: Signature, depth: u16) -> Concept {
+    fn concept(&mut self, drawn: Drawn, depth: u16) -> Concept {
         if depth == 0 {
             return match self.below(4) {
+                _ if drawn.marks && self.below(3) == 0 => Concept::mark(self.mark()),
                 0 => Concept::everything(),
-                1 => Concept::constant(self.constant(signature)),
-                _ => Concept::class(self.class(signature)),
+                1 => Concept::constant(self.constant(drawn.signature)),
+                _ => Concept::class(self.class(drawn.signature)),
             };
         }
         let shallower = self.below(depth);
         match self.below(4) {
             0 => Concept::both(
-                self.concept(signature, depth - 1),
-                self.concept(signature, shallower),
+                self.concept(drawn, depth - 1),
+                self.concept(drawn, shallower),
             ),
-            1 => Concept::common(self.path(signature, depth), self.path(signature, shallower)),
-            _ => Concept::reached(self.path(signature, depth)),
+            1 => Concept::common(self.path(drawn, depth), self.path(drawn, shallower)),
+            _ => Concept::reached(self.path(drawn, depth)),
         }
     }
 
-    fn path(&mut self, signature: Signature, depth: u16) -> Path {
+    fn path(&mut self, drawn: Drawn, depth: u16) -> Path {
         let mut path = Path::empty();
         for _ in 0..self.below(5) {
-            let attribute = self.attribute(signature);
+            let attribute = self.attribute(drawn.signature);
             let depth = self.below(depth + 1) / 2;
-            let landing = self.concept(signature, depth);
+            let landing = self.concept(drawn, depth);
             path = match self.below(3) {
                 0 => path.backward(attribute, landing),
                 _ => path.forward(attribute, landing),
@@ -126,8 +139,8 @@ impl Random {
         path
     }
 
-    fn state(&mut self, schema: &Schema) -> Option<State> {
-        let signature = schema.signature();
+    fn state(&mut self, schema: &Schema, drawn: Drawn) -> Option<State> {
+        let signature = drawn.signature;
         let mut builder = StateBuilder::new(schema);
         let objects = self.below(40);
         for _ in 0..objects {
@@ -143,8 +156,46 @@ impl Random {
         for _ in 0..self.below(20) {
             let _ = builder.name(self.constant(signature), Object(self.near(objects)));
         }
+        if drawn.marks {
+            for _ in 0..self.below(5) {
+                let _ = builder.choose(self.mark(), Object(self.near(objects)));
+            }
+        }
         builder.build().ok()
     }
+}
+
+/// What concepts and states are drawn from.
+#[derive(Clone, Copy)]
+struct Drawn {
+    signature: Signature,
+    marks: bool,
+}
+
+fn unmarked(schema: &Schema) -> Drawn {
+    Drawn {
+        signature: schema.signature(),
+        marks: false,
+    }
+}
+
+/// The marks that a concept uses.
+fn used(concept: &Concept) -> BTreeSet<Mark> {
+    let tokens = concept.tokens().iter();
+    let marks = tokens.filter_map(|token| match token {
+        Token::Mark(mark) => Some(*mark),
+        _ => None,
+    });
+    marks.collect()
+}
+
+/// The marks that have an object in a state.
+fn chosen(state: &State) -> BTreeSet<Mark> {
+    let marks = state.facts().filter_map(|fact| match fact {
+        Fact::Choice { mark, .. } => Some(mark),
+        _ => None,
+    });
+    marks.collect()
 }
 
 #[test]
@@ -162,25 +213,31 @@ fn built_schemas_are_accepted() {
 #[test]
 fn built_concepts_are_accepted() {
     let mut random = Random(2);
-    let (mut queries, mut views) = (0, 0);
+    let (mut queries, mut with_marks, mut views) = (0, 0, 0);
     for _ in 0..DRAWS {
         let schema = random.schema();
-        let depth = random.below(5);
-        let concept = random.concept(schema.signature(), depth);
+        let (drawn, depth) = (random.drawn(&schema), random.below(5));
+        let concept = random.concept(drawn, depth);
+        let is_marked = !used(&concept).is_empty();
         if let Ok(query) = Query::new(&schema, &concept) {
             queries += 1;
+            with_marks += usize::from(is_marked);
             let read = Query::from_words(&schema, query.words().to_vec());
             assert_eq!(read.as_ref(), Ok(&query));
             assert_eq!(query.concept(), concept);
         }
-        if let Ok(view) = View::new(&schema, &concept) {
+        let view = View::new(&schema, &concept);
+        let is_turned_down = matches!(view, Err(BuildError::MarkInView(_)));
+        assert_eq!(is_turned_down, is_marked);
+        if let Ok(view) = view {
             views += 1;
             let read = View::from_words(&schema, view.words().to_vec());
             assert_eq!(read, Ok(view));
         }
     }
     assert!(queries > DRAWS / 4 && views > DRAWS / 4);
-    assert!(queries > views, "{queries} queries, {views} views");
+    assert!(with_marks > DRAWS / 20, "{with_marks} with marks");
+    assert!(queries > with_marks + views, "{queries}, {views} views");
 }
 
 /// Whether two constants name one object.
@@ -196,18 +253,27 @@ fn is_shared(state: &State) -> bool {
 #[test]
 fn built_states_are_accepted() {
     let mut random = Random(3);
-    let (mut states, mut shared) = (0, 0);
+    let (mut states, mut shared, mut with_marks) = (0, 0, 0);
     for _ in 0..DRAWS {
         let schema = random.schema();
-        if let Some(state) = random.state(&schema) {
+        let drawn = random.drawn(&schema);
+        if let Some(state) = random.state(&schema, drawn) {
             states += 1;
             shared += usize::from(is_shared(&state));
             let read = State::from_words(&schema, state.words().to_vec());
             assert_eq!(read, Ok(state.clone()));
-            assert!(schema.legal(&state).is_ok());
+            let legality = schema.legal(&state);
+            if chosen(&state).is_empty() {
+                assert!(legality.is_ok(), "{legality:?}");
+            } else {
+                with_marks += 1;
+                assert_eq!(legality, Err(Refusal::BAD_FACT));
+            }
         }
     }
     assert!(states > DRAWS / 4, "{states} states");
+    assert!(with_marks > DRAWS / 20, "{with_marks} with marks");
+    assert!(states > with_marks + DRAWS / 20);
     assert!(shared > DRAWS / 20, "{shared} with a shared object");
 }
 
@@ -217,8 +283,9 @@ fn links_of_built_states_are_counted() {
     let (mut none, mut some, mut refused) = (0, 0, 0);
     while none + some < DRAWS {
         let schema = random.schema();
-        let query = Query::new(&schema, &random.concept(schema.signature(), 1));
-        let (Ok(query), Some(state)) = (query, random.state(&schema)) else {
+        let drawn = unmarked(&schema);
+        let query = Query::new(&schema, &random.concept(drawn, 1));
+        let (Ok(query), Some(state)) = (query, random.state(&schema, drawn)) else {
             continue;
         };
         let counted = random.attribute(schema.signature());
@@ -271,64 +338,95 @@ fn walked(concept: &Concept) -> Named {
 fn names_of_built_concepts_are_told() {
     let mut random = Random(7);
     let (mut queries, mut views, mut repeating, mut some) = (0, 0, 0, 0);
+    let mut plain = 0;
     while queries < DRAWS {
         let schema = random.schema();
         let signature = schema.signature();
-        let depth = random.below(5);
-        let concept = random.concept(signature, depth);
+        let (drawn, depth) = (random.drawn(&schema), random.below(5));
+        let concept = random.concept(drawn, depth);
         let Ok(query) = Query::new(&schema, &concept) else {
             continue;
         };
         let named = walked(&concept);
-        assert_eq!(schema.check_concept(&query), Ok(named));
+        assert_eq!(schema.check_query(&query), Ok(named));
+        let as_concept = if used(&concept).is_empty() {
+            Ok(named)
+        } else {
+            Err(Refusal::BAD_TOKEN)
+        };
+        assert_eq!(schema.check_concept(&query), as_concept);
         let as_view = match View::new(&schema, &concept) {
             Ok(_) => Ok(named),
+            Err(BuildError::MarkInView(_)) => Err(Refusal::BAD_TOKEN),
             Err(_) => Err(Refusal::BAD_STEPS),
         };
         assert_eq!(check_view(schema.words(), query.words()), as_view);
         let is_class = |token: &&Token| matches!(token, Token::Class(_));
         let mentions = concept.tokens().iter().filter(is_class).count();
         queries += 1;
+        plain += usize::from(as_concept.is_ok());
         views += usize::from(as_view.is_ok());
         repeating += usize::from(named.count < mentions as u64);
         some += usize::from((1..signature.classes.into()).contains(&named.count));
     }
     let few = DRAWS / 20;
-    assert!(views > few && queries - views > few, "{views} views");
+    assert!(views > few && plain - views > few / 2, "{views} of {plain}");
+    assert!(queries - plain > few, "{plain} without marks");
     assert!(repeating > few && some > few, "{repeating}, {some}");
 }
 
+/// The state without the objects of marks.
+fn without_marks(schema: &Schema, state: &State) -> State {
+    let is_choice = |fact: &Fact| matches!(fact, Fact::Choice { .. });
+    let facts = state.facts().filter(|fact| !is_choice(fact));
+    let facts: Vec<Pair> = facts.map(Fact::words).collect();
+    let words = layout::state(state.objects(), &facts);
+    State::from_words(schema, words).expect("a state")
+}
+
+/// What is held and what is open, by whether the query has marks.
 #[test]
 fn built_triples_are_decided() {
     let mut random = Random(4);
-    let (mut held, mut open, mut shared) = (0, 0, 0);
-    while held + open < DRAWS {
+    let (mut held, mut open, mut shared) = ([0; 2], [0; 2], 0);
+    while held[0] + held[1] + open[0] + open[1] < DRAWS {
         let schema = random.schema();
-        let signature = schema.signature();
-        let query = Query::new(&schema, &random.concept(signature, 2));
-        let view = View::new(&schema, &random.concept(signature, 1));
+        let drawn = random.drawn(&schema);
+        let asked = random.concept(drawn, 2);
+        let query = Query::new(&schema, &asked);
+        let view = View::new(&schema, &random.concept(unmarked(&schema), 1));
         let (Ok(query), Ok(view)) = (query, view) else {
             continue;
         };
+        let marks = used(&asked);
+        let sort = usize::from(!marks.is_empty());
         let decision = schema.decide(&query, &view);
         assert_eq!(schema.holds(&query, &view), Ok(decision.is_held()));
         match decision {
-            Decision::Held => held += 1,
+            Decision::Held => held[sort] += 1,
             Decision::Open { state, object } => {
-                open += 1;
+                open[sort] += 1;
                 shared += usize::from(is_shared(&state));
-                assert_eq!(schema.legal(&state), Ok(Legality::Legal));
-                let in_query = schema.select(&query, &state).expect("a selection");
-                let in_view = schema.select(&view.clone().into(), &state);
-                let in_view = in_view.expect("a selection");
-                assert!(in_query.contains(&object) && !in_view.contains(&object));
+                assert_eq!(chosen(&state), marks);
+                let found = schema.counterexample(&query, &view, &state);
+                let found = found.expect("an answer").expect("a legal state");
+                assert!(found <= object, "{found:?}, {object:?}");
+                let plain = without_marks(&schema, &state);
+                assert_eq!(schema.legal(&plain), Ok(Legality::Legal));
+                let in_view = schema.select(&view.clone().into(), &plain);
+                assert!(!in_view.expect("a selection").contains(&object));
+                if marks.is_empty() {
+                    let in_query = schema.select(&query, &state);
+                    assert!(in_query.expect("a selection").contains(&object));
+                }
                 let read = State::from_words(&schema, state.words().to_vec());
                 assert_eq!(read, Ok(state));
             }
             Decision::Refused(refusal) => panic!("{refusal} of {schema:?}, {query:?}, {view:?}"),
         }
     }
-    assert!(held > DRAWS / 20 && open > DRAWS / 20, "{held}, {open}");
+    let many = held.iter().chain(&open).all(|&count| count > DRAWS / 40);
+    assert!(many, "{held:?}, {open:?}");
     assert!(shared > DRAWS / 200, "{shared} with a shared object");
 }
 
@@ -357,10 +455,9 @@ fn built_catalogues_are_put_in_order() {
     let (mut drawn, mut together, mut moved) = (0, 0, 0);
     while drawn < DRAWS / 10 {
         let schema = random.schema();
-        let signature = schema.signature();
         let views = (0..random.below(40)).filter_map(|_| {
             let depth = random.below(3);
-            View::new(&schema, &random.concept(signature, depth)).ok()
+            View::new(&schema, &random.concept(unmarked(&schema), depth)).ok()
         });
         let views: Vec<View> = views.take(MAX_VIEWS).collect();
         if views.is_empty() {
@@ -398,7 +495,11 @@ fn any_words_are_answered() {
         let (schema, one) = (any_words(&mut random), any_words(&mut random));
         let other = any_words(&mut random);
         let in_range = |refusal: Refusal| (1..=Refusal::LAST.number()).contains(&refusal.number());
-        assert!(select(&schema, &one, &other).err().is_none_or(in_range));
+        let selected = select(&schema, &one, &other);
+        assert!(selected.as_ref().err().is_none_or(|&error| in_range(error)));
+        if let Err(refusal) = check_concept(&schema, &one) {
+            assert_eq!(selected, Err(refusal));
+        }
         let attribute = random.below(MAX_ATTRIBUTES);
         for links in [links_by_first, links_by_second] {
             let links = links(&schema, &one, &other, attribute);
@@ -406,8 +507,8 @@ fn any_words_are_answered() {
         }
         assert!(legal(&schema, &one).err().is_none_or(in_range));
         let answer = holds(&schema, &one, &other);
-        // The two checks say what is wrong with the records of a triple.
-        let checked = check_concept(&schema, &one).and(check_view(&schema, &other));
+        // Two checks say what is wrong with the records of a triple.
+        let checked = check_query(&schema, &one).and(check_view(&schema, &other));
         assert_eq!(checked.err(), answer.err());
         let ordered = catalogue(&schema, &layout::catalogue(&[&one, &other]));
         let checked = check_view(&schema, &one).and(check_view(&schema, &other));
