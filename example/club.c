@@ -1,5 +1,6 @@
 /* The rowing club: may the query "rowers who attend a session" be read from the stored list of the view "persons whose strap
- * has recorded a beat of a session"? And the other way round? With target/staticlib built:
+ * has recorded a beat of a session"? And the other way round? And where may those beats be looked for whose strap's wearer is
+ * also the session's stroke? With target/staticlib built:
  *
  *   cc -Iinclude example/club.c target/staticlib/libbikuvoa_c.a -o club && ./club */
 #include "bikuvoa.h"
@@ -7,9 +8,9 @@
 
 /* Classes and attributes are numbers; their names stay here. */
 enum { PERSON, ROWER, STRAP, SESSION, BEAT, CLASSES };
-enum { WEARS, RECORDS, DURING, ATTENDS, ATTRIBUTES };
+enum { WEARS, RECORDS, DURING, ATTENDS, STROKED_BY, ATTRIBUTES };
 static const char *const CLASS_NAMES[] = {"Person", "Rower", "Strap", "Session", "Beat"};
-static const char *const ATTRIBUTE_NAMES[] = {"wears", "records", "during", "attends"};
+static const char *const ATTRIBUTE_NAMES[] = {"wears", "records", "during", "attends", "stroked by"};
 
 static bikuvoa_schema club(uint16_t *words, size_t room)
 {
@@ -24,6 +25,7 @@ static bikuvoa_schema club(uint16_t *words, size_t room)
     bikuvoa_single(&s, BEAT, DURING);
     bikuvoa_relates(&s, DURING, BEAT, SESSION);
     bikuvoa_relates(&s, ATTENDS, PERSON, SESSION);
+    bikuvoa_relates(&s, STROKED_BY, SESSION, ROWER); /* the stroke of a session is a rower */
     return s;
 }
 
@@ -56,6 +58,51 @@ static bikuvoa_concept recorded_persons(uint16_t *words, size_t room)
     return c;
 }
 
+/* One mark at both ends says that the strap's wearer and the session's stroke are the same. */
+static bikuvoa_concept beats_of_the_stroke(uint16_t *words, size_t room)
+{
+    bikuvoa_concept c = bikuvoa_start_concept(words, room);
+    bikuvoa_empty(&c);
+    bikuvoa_class(&c, STRAP);
+    bikuvoa_backward(&c, RECORDS);
+    bikuvoa_mark(&c, 0);
+    bikuvoa_backward(&c, WEARS);
+    bikuvoa_reached(&c);
+    bikuvoa_empty(&c);
+    bikuvoa_class(&c, SESSION);
+    bikuvoa_forward(&c, DURING);
+    bikuvoa_mark(&c, 0);
+    bikuvoa_forward(&c, STROKED_BY);
+    bikuvoa_reached(&c);
+    bikuvoa_both(&c);
+    return c;
+}
+
+/* Two steps from a beat: back to the strap and its wearer, or to the session and back to who attends it. */
+static bikuvoa_concept beats_of_rowers(uint16_t *words, size_t room)
+{
+    bikuvoa_concept c = bikuvoa_start_concept(words, room);
+    bikuvoa_empty(&c);
+    bikuvoa_class(&c, STRAP);
+    bikuvoa_backward(&c, RECORDS);
+    bikuvoa_class(&c, ROWER);
+    bikuvoa_backward(&c, WEARS);
+    bikuvoa_reached(&c);
+    return c;
+}
+
+static bikuvoa_concept beats_of_attended_sessions(uint16_t *words, size_t room)
+{
+    bikuvoa_concept c = bikuvoa_start_concept(words, room);
+    bikuvoa_empty(&c);
+    bikuvoa_class(&c, SESSION);
+    bikuvoa_forward(&c, DURING);
+    bikuvoa_class(&c, PERSON);
+    bikuvoa_backward(&c, ATTENDS);
+    bikuvoa_reached(&c);
+    return c;
+}
+
 static void print_facts(const uint16_t *state)
 {
     for (size_t i = 0; i < bikuvoa_facts(state); i++) {
@@ -64,8 +111,10 @@ static void print_facts(const uint16_t *state)
             printf("  %zu is a %s\n", object, CLASS_NAMES[kind]);
         else if (kind < BIKUVOA_CONSTANT_KINDS)
             printf("  %zu %s %zu\n", object, ATTRIBUTE_NAMES[kind - BIKUVOA_ATTRIBUTE_KINDS], bikuvoa_fact_second(state, i));
-        else
+        else if (kind < BIKUVOA_MARK_KINDS)
             printf("  %zu is constant %zu\n", object, kind - BIKUVOA_CONSTANT_KINDS);
+        else
+            printf("  %zu is mark %zu\n", object, kind - BIKUVOA_MARK_KINDS);
     }
 }
 
@@ -92,14 +141,19 @@ static int decide(bikuvoa_schema schema, bikuvoa_concept query, bikuvoa_concept 
 
 int main(void)
 {
-    uint16_t schema_words[BIKUVOA_MAX_SCHEMA_WORDS], rowers_words[BIKUVOA_MAX_CONCEPT_WORDS],
-        recorded_words[BIKUVOA_MAX_CONCEPT_WORDS];
+    enum { ROOM = BIKUVOA_MAX_CONCEPT_WORDS };
+    uint16_t schema_words[BIKUVOA_MAX_SCHEMA_WORDS], words[5][ROOM];
     bikuvoa_schema schema = club(schema_words, BIKUVOA_MAX_SCHEMA_WORDS);
-    bikuvoa_concept rowers = rowers_who_attend(rowers_words, BIKUVOA_MAX_CONCEPT_WORDS);
-    bikuvoa_concept recorded = recorded_persons(recorded_words, BIKUVOA_MAX_CONCEPT_WORDS);
+    bikuvoa_concept rowers = rowers_who_attend(words[0], ROOM), recorded = recorded_persons(words[1], ROOM);
+    bikuvoa_concept stroke = beats_of_the_stroke(words[2], ROOM);
+    bikuvoa_concept of_rowers = beats_of_rowers(words[3], ROOM), attended = beats_of_attended_sessions(words[4], ROOM);
 
     printf("rowers who attend, from the list of recorded persons: ");
     if (decide(schema, rowers, recorded)) return 1;
     printf("recorded persons, from a list of rowers who attend: ");
-    return decide(schema, recorded, rowers);
+    if (decide(schema, recorded, rowers)) return 1;
+    printf("beats of the session's stroke, from a list of beats of rowers: ");
+    if (decide(schema, stroke, of_rowers)) return 1;
+    printf("beats of the session's stroke, from a list of beats of attended sessions: ");
+    return decide(schema, stroke, attended);
 }

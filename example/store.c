@@ -80,7 +80,7 @@ static void answer(const Query *query)
     printf(" (from %s, looking at %d)\n", from ? from->name : "all objects", looks);
 }
 
-/* What the store holds: the rowing club, as in example/club.c, and numbers of its straps. */
+/* What the store holds: the rowing club, as in example/club.c without the strokes of sessions, and numbers of its straps. */
 static void make_schema(void)
 {
     schema = bikuvoa_start_schema(schema_words, BIKUVOA_SCHEMA_WORDS(AXIOMS), CLASSES, ATTRIBUTES, CONSTANTS);

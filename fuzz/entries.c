@@ -1,4 +1,4 @@
-/* A libFuzzer target over the ten entries. An input is read as records of arbitrary words, or as instructions for records
+/* A libFuzzer target over the eleven entries. An input is read as records of arbitrary words, or as instructions for records
  * that are mostly accepted, which may then be damaged. Every record and all lent words end at a page that cannot be touched.
  * What the entries promise of each other is checked: see check_*.
  *
@@ -22,9 +22,11 @@ int LLVMFuzzerTestOneInput(const uint8_t *data, size_t size);
 
 /* How many calls of decide had each verdict, how many counts of links were above 0, or refused for the attribute, how many
  * checks found a class twice, or more steps than a view may have, how many catalogues had a group of several views, a group
- * before one with a lower number, or another layout, how many schemas were refused for the loose word, and how many states that
- * decide wrote have one object for several constants. */
-static unsigned long verdicts[4], linked, undeclared, repeated, many_steps, grouped, ahead, other_layout, bad_loose, shared;
+ * before one with a lower number, or another layout, how many schemas were refused for the loose word, how many states that
+ * decide wrote have one object for several constants, or for a mark, how many queries were held only since one mark stands at
+ * several places, and how many states were refused for a mark that the query uses. */
+static unsigned long verdicts[4], linked, undeclared, repeated, many_steps, grouped, ahead, other_layout, bad_loose, shared,
+    marked, tied, unchosen;
 
 #define CHECK(ok) ((ok) ? (void)0 : fail(#ok, __LINE__))
 
@@ -36,7 +38,7 @@ static void fail(const char *what, int line)
 
 /* Words that end where a page begins that can be neither read nor written. */
 
-enum { SCHEMA, QUERY, VIEW, STATE, VIEWS, LENT, ORDER, WRITTEN, PLACES };
+enum { SCHEMA, QUERY, VIEW, STATE, VIEWS, LENT, ORDER, WRITTEN, UNMARKED, PLACES = UNMARKED + VIEWS };
 #define FENCED_WORDS 81920 /* more than a size word can say, and whole pages */
 
 typedef struct {
@@ -115,9 +117,10 @@ static Words arbitrary(Input *in, int place)
 
 typedef struct {
     size_t classes, attributes, constants;
+    size_t marks; /* that a concept may have: none but the query has any */
 } Declared;
 
-/* Mostly few, so that what is said of them meets; or any number up to the limits. */
+/* Mostly few, so that what is said of them meets; or any number up to the limits. Half of the queries have no marks. */
 static Declared some_declared(Input *in)
 {
     int few = byte(in) % 4 != 0;
@@ -125,6 +128,7 @@ static Declared some_declared(Input *in)
     d.classes = below(in, few ? 5 : BIKUVOA_MAX_CLASSES + 1);
     d.attributes = below(in, few ? 4 : BIKUVOA_MAX_ATTRIBUTES + 1);
     d.constants = below(in, few ? 3 : BIKUVOA_MAX_CONSTANTS + 1);
+    d.marks = byte(in) % 2 ? 1 + below(in, few ? 2 : BIKUVOA_MAX_MARKS) : 0;
     return d;
 }
 
@@ -172,9 +176,11 @@ static void put_constants(Input *in, Declared d, bikuvoa_concept *c)
 /* An input that has ended gives "everything", so that this ends. */
 static void put_concept(Input *in, Declared d, bikuvoa_concept *c, size_t *steps)
 {
-    size_t sort = in->left ? byte(in) % 8 : 0;
+    size_t sort = in->left ? byte(in) % 9 : 0;
     if (sort == 1 && d.constants) {
         put_constants(in, d, c);
+    } else if (sort == 8 && d.marks) {
+        bikuvoa_mark(c, below(in, d.marks));
     } else if (sort == 2) {
         put_concept(in, d, c, steps);
         put_concept(in, d, c, steps);
@@ -193,6 +199,21 @@ static void put_concept(Input *in, Declared d, bikuvoa_concept *c, size_t *steps
     }
 }
 
+/* Two values that are marks, perhaps the same; or, where marks may not stand, one value of two attributes. So what one mark at
+ * two places says is often asked. */
+static void put_two_values(Input *in, Declared d, bikuvoa_concept *c)
+{
+    for (int i = 0; i < 2; i++) {
+        bikuvoa_empty(c);
+        if (d.marks) bikuvoa_mark(c, below(in, d.marks));
+        else bikuvoa_everything(c);
+        bikuvoa_forward(c, below(in, d.attributes));
+        if (d.marks) bikuvoa_reached(c);
+    }
+    if (d.marks) bikuvoa_both(c);
+    else bikuvoa_common(c);
+}
+
 /* From as many bytes as may be. */
 static bikuvoa_concept some_concept(Input *in, Declared d, uint16_t *words, size_t bytes, size_t steps)
 {
@@ -202,14 +223,17 @@ static bikuvoa_concept some_concept(Input *in, Declared d, uint16_t *words, size
     part.at = in->at;
     in->at += part.left;
     in->left -= part.left;
-    put_concept(&part, d, &c, &steps);
+    if (d.attributes && byte(&part) % 4 == 1) put_two_values(&part, d, &c);
+    else put_concept(&part, d, &c, &steps);
     return c;
 }
 
 static Words built_concept(Input *in, Declared d, int place, size_t steps)
 {
     uint16_t words[BIKUVOA_MAX_CONCEPT_WORDS];
-    bikuvoa_concept c = some_concept(in, d, words, 40, steps);
+    bikuvoa_concept c;
+    if (place != QUERY) d.marks = 0;
+    c = some_concept(in, d, words, 40, steps);
     return copied(place, c.words, c.length);
 }
 
@@ -218,6 +242,7 @@ static Words built_views(Input *in, Declared d, const Words *r)
 {
     uint16_t words[BIKUVOA_CATALOGUE_SIZES(BIKUVOA_MAX_VIEWS + 1) + (BIKUVOA_MAX_VIEWS + 1) * BIKUVOA_MAX_CONCEPT_WORDS];
     bikuvoa_views v = bikuvoa_start_views(words, sizeof words / sizeof *words);
+    d.marks = 0;
     for (size_t n = byte(in) % 8 ? 1 + below(in, 5) : below(in, BIKUVOA_MAX_VIEWS + 2); n > 0; n--) {
         uint16_t view[BIKUVOA_MAX_CONCEPT_WORDS];
         size_t which = below(in, 8);
@@ -228,14 +253,29 @@ static Words built_views(Input *in, Declared d, const Words *r)
     return copied(VIEWS, v.words, v.length);
 }
 
-/* Now and then a constant is left out. */
-static Words built_state(Input *in, Declared d)
+/* The marks of a concept that is accepted, as a set. */
+static unsigned used_in(Words concept)
+{
+    size_t n = concept.at[BIKUVOA_AT_TOKENS];
+    unsigned used = 0;
+    for (size_t i = BIKUVOA_CONCEPT_SIZES; i < BIKUVOA_CONCEPT_SIZES + n; i++)
+        if (concept.at[i] == BIKUVOA_MARK) used |= 1u << concept.at[i + n];
+    return used;
+}
+
+/* Now and then a constant or a mark of the query is left out, or a mark gets one more object. */
+static Words built_state(Input *in, Declared d, Words query)
 {
     uint16_t words[BIKUVOA_STATE_WORDS(40)];
     size_t n = d.constants + below(in, 8);
+    unsigned used = query.words ? used_in(query) : 0;
     bikuvoa_state s = bikuvoa_start_state(words, BIKUVOA_STATE_WORDS(40), n);
     for (size_t k = 0; k < d.constants; k++)
         if (!in->left || byte(in) % 32) bikuvoa_name(&s, k, in->left ? below(in, n) : k);
+    for (size_t k = 0; k < d.marks; k++) {
+        if ((used >> k & 1) && byte(in) % 32 != 1) bikuvoa_choose(&s, k, below(in, n));
+        if (byte(in) % 32 == 1) bikuvoa_choose(&s, k, below(in, n));
+    }
     for (size_t facts = n ? below(in, 32) : 0; facts > 0; facts--) {
         size_t kind = below(in, d.classes + d.attributes), object = below(in, n), second = below(in, n);
         if (kind < d.classes) bikuvoa_member(&s, kind, object);
@@ -283,16 +323,29 @@ static uint16_t selected(const Words *r, Words concept, Words state, size_t room
     return 0;
 }
 
-/* The object that constant k names, or one that no state has if there is not exactly one. */
-static size_t named_by(Words state, size_t k)
+/* The object of the one fact of that kind, or an object that no state has if there is not exactly one. */
+static size_t object_of(Words state, size_t kind)
 {
     size_t object = BIKUVOA_MAX_OBJECTS, facts = 0;
     for (size_t i = 0; i < bikuvoa_facts(state.at); i++) {
-        if (bikuvoa_fact_kind(state.at, i) != BIKUVOA_CONSTANT_KINDS + k) continue;
+        if (bikuvoa_fact_kind(state.at, i) != kind) continue;
         object = bikuvoa_fact_object(state.at, i);
         facts++;
     }
     return facts == 1 ? object : BIKUVOA_MAX_OBJECTS;
+}
+
+static size_t named_by(Words state, size_t k)
+{
+    return object_of(state, BIKUVOA_CONSTANT_KINDS + k);
+}
+
+/* Whether each of these marks is one object. */
+static int are_chosen(Words state, unsigned marks)
+{
+    for (size_t k = 0; marks >> k; k++)
+        if ((marks >> k & 1) && object_of(state, BIKUVOA_MARK_KINDS + k) == BIKUVOA_MAX_OBJECTS) return 0;
+    return 1;
 }
 
 /* Whether two of these constants name one object. */
@@ -324,10 +377,84 @@ static uint16_t broken_axiom(const Words *r, Words state, uint64_t *broken)
     return returned;
 }
 
+/* The query with other tokens in place of its marks: classes or constants from that number on, or everything. */
+static Words replaced(Words query, uint16_t sort, size_t from)
+{
+    Words w = copied(UNMARKED + QUERY, query.at, query.words);
+    size_t n = w.at[BIKUVOA_AT_TOKENS];
+    for (size_t i = BIKUVOA_CONCEPT_SIZES; i < BIKUVOA_CONCEPT_SIZES + n; i++) {
+        if (w.at[i] != BIKUVOA_MARK) continue;
+        w.at[i] = sort;
+        w.at[i + n] = sort == BIKUVOA_EVERYTHING ? 0 : (uint16_t)(w.at[i + n] + from);
+    }
+    return w;
+}
+
+/* The state with members of classes, from that number on, in place of the objects of these marks. A fact of a class that is not
+ * declared gets a kind that never is. */
+static Words with_members(Words state, unsigned marks, size_t declared, size_t from)
+{
+    static uint16_t words[BIKUVOA_MAX_STATE_WORDS];
+    bikuvoa_state s = bikuvoa_start_state(words, BIKUVOA_MAX_STATE_WORDS, state.at[BIKUVOA_AT_OBJECTS]);
+    for (size_t i = 0; i < bikuvoa_facts(state.at); i++) {
+        size_t kind = bikuvoa_fact_kind(state.at, i), object = bikuvoa_fact_object(state.at, i);
+        size_t second = bikuvoa_fact_second(state.at, i), k = kind - BIKUVOA_MARK_KINDS;
+        if (kind >= BIKUVOA_MARK_KINDS && kind < BIKUVOA_FACT_KINDS && (marks >> k & 1)) kind = from + k;
+        else if (kind >= declared && kind < BIKUVOA_ATTRIBUTE_KINDS) kind = BIKUVOA_FACT_KINDS;
+        bikuvoa_fact(&s, kind * BIKUVOA_OBJECT_PART + object, second);
+    }
+    return copied(UNMARKED + STATE, s.words, s.length);
+}
+
+/* The same question about the state without marks: each is a class of its own, which has just its object. Returns 0 if there is
+ * no room for these classes; then each is a class of the schema, and only what is refused is the same. */
+static int unmarked(const Words *r, Words state, Words *without)
+{
+    unsigned used = used_in(r[QUERY]);
+    size_t classes = r[SCHEMA].at[BIKUVOA_AT_CLASSES];
+    int room = classes + BIKUVOA_MAX_MARKS <= BIKUVOA_MAX_CLASSES;
+    memcpy(without, r, STATE * sizeof *without);
+    without[STATE] = state;
+    if (!used) return 1;
+    if (room) {
+        without[SCHEMA] = copied(UNMARKED + SCHEMA, r[SCHEMA].at, r[SCHEMA].words);
+        without[SCHEMA].at[BIKUVOA_AT_CLASSES] = (uint16_t)(classes + BIKUVOA_MAX_MARKS);
+    }
+    without[QUERY] = replaced(r[QUERY], BIKUVOA_CLASS, room ? classes : 0);
+    without[STATE] = with_members(state, used, classes, room ? classes : 0);
+    return room;
+}
+
+static int ascend(Words state)
+{
+    const uint16_t *left = state.at + BIKUVOA_STATE_SIZES, *right = left + bikuvoa_facts(state.at);
+    for (size_t i = 1; i < bikuvoa_facts(state.at); i++)
+        if (left[i] < left[i - 1] || (left[i] == left[i - 1] && right[i] <= right[i - 1])) return 0;
+    return 1;
+}
+
+/* The refusal of a state beside an accepted query, if alone it has this refusal: the same, but for the facts of marks
+ * that the query uses. */
+static uint16_t bad_beside(const Words *r, uint16_t alone)
+{
+    Words without[STATE + 1];
+    uint64_t broken;
+    unsigned used = used_in(r[QUERY]);
+    if (!used || alone == BIKUVOA_BAD_STATE_SHAPE) return alone;
+    unmarked(r, r[STATE], without);
+    alone = broken_axiom(without, without[STATE], &broken);
+    if (alone == BIKUVOA_BAD_FACT) return alone;
+    if (!ascend(r[STATE])) return BIKUVOA_BAD_ORDER;
+    if (are_chosen(r[STATE], used)) return alone;
+    unchosen++;
+    return BIKUVOA_BAD_CONSTANTS;
+}
+
 /* The lowest object in the query and outside the view by select, plus 1, in a state that is legal by legal; else 0. */
 static uint16_t check_counterexample(const Words *r, Words state, uint64_t *found)
 {
     uint8_t in_query[BIKUVOA_MAX_OBJECTS], in_view[BIKUVOA_MAX_OBJECTS];
+    Words without[STATE + 1];
     uint64_t broken, lowest = 0;
     uint16_t returned;
     *found = UNTOUCHED_OUT;
@@ -337,9 +464,10 @@ static uint16_t check_counterexample(const Words *r, Words state, uint64_t *foun
         CHECK(*found == UNTOUCHED_OUT);
         return returned;
     }
-    CHECK(selected(r, r[QUERY], state, BIKUVOA_MAX_OBJECTS, in_query) == 0);
-    CHECK(selected(r, r[VIEW], state, BIKUVOA_MAX_OBJECTS, in_view) == 0);
-    CHECK(broken_axiom(r, state, &broken) == 0);
+    if (!unmarked(r, state, without)) return 0;
+    CHECK(selected(without, without[QUERY], without[STATE], BIKUVOA_MAX_OBJECTS, in_query) == 0);
+    CHECK(selected(without, without[VIEW], without[STATE], BIKUVOA_MAX_OBJECTS, in_view) == 0);
+    CHECK(broken_axiom(without, without[STATE], &broken) == 0);
     for (size_t i = state.at[BIKUVOA_AT_OBJECTS]; i > 0; i--)
         if (in_query[i - 1] && !in_view[i - 1]) lowest = i;
     CHECK(*found == (broken ? 0 : lowest));
@@ -402,16 +530,33 @@ static uint16_t check_names(const Words *r, Words concept, Check *by)
     return returned;
 }
 
+/* Whether it is 0 or among these numbers. */
+static int is_among(uint16_t refusal, uint16_t lowest, uint16_t highest)
+{
+    return refusal == 0 || (lowest <= refusal && refusal <= highest);
+}
+
+static int has_mark(Words concept)
+{
+    size_t i = BIKUVOA_CONCEPT_SIZES, end = i + concept.at[BIKUVOA_AT_TOKENS];
+    while (i < end && concept.at[i] != BIKUVOA_MARK) i++;
+    return i < end;
+}
+
 typedef struct {
-    uint16_t query, view;
+    uint16_t concept, query, view;
 } Returned;
 
-/* What both checks return of a concept. They differ only where it has too many steps for a view. */
+/* What the checks return of a concept. They differ only where it has a mark, which is a fault of a token but in a query, or too
+ * many steps for a view. */
 static Returned check_concept(const Words *r, Words concept)
 {
-    Returned as = {check_names(r, concept, bikuvoa_check_concept), check_names(r, concept, bikuvoa_check_view)};
-    int many = as.query == 0 && concept.at[BIKUVOA_AT_STEPS] > BIKUVOA_VIEW_STEPS;
-    CHECK(as.view == (many ? BIKUVOA_BAD_STEPS : as.query));
+    Returned as = {check_names(r, concept, bikuvoa_check_concept), check_names(r, concept, bikuvoa_check_query),
+                   check_names(r, concept, bikuvoa_check_view)};
+    int mark = is_among(as.query, BIKUVOA_BAD_TOKEN, BIKUVOA_BAD_STEPS) && has_mark(concept);
+    int many = as.concept == 0 && concept.at[BIKUVOA_AT_STEPS] > BIKUVOA_VIEW_STEPS;
+    CHECK(as.concept == (mark ? BIKUVOA_BAD_TOKEN : as.query));
+    CHECK(as.view == (many ? BIKUVOA_BAD_STEPS : as.concept));
     if (many) many_steps++;
     return as;
 }
@@ -428,10 +573,60 @@ static void check_holds(const Words *r, uint16_t decided, uint64_t objects)
         CHECK(returned == decided && held == (returned ? UNTOUCHED_OUT : objects == 0));
 }
 
+static uint64_t held_by(Words schema, Words query, Words view)
+{
+    uint64_t held = UNTOUCHED_OUT;
+    CHECK(bikuvoa_holds(schema.at, schema.words, query.at, query.words, view.at, view.words, &held) == 0);
+    return held;
+}
+
+/* How often the mark stands in the query. */
+static int places_of(Words query, size_t k)
+{
+    size_t n = query.at[BIKUVOA_AT_TOKENS];
+    int places = 0;
+    for (size_t i = BIKUVOA_CONCEPT_SIZES; i < BIKUVOA_CONCEPT_SIZES + n; i++)
+        places += query.at[i] == BIKUVOA_MARK && query.at[i + n] == k;
+    return places;
+}
+
+/* With loose constants after the declared ones in place of the marks, if there is room for them, the verdict is the same. With
+ * everything in their places the query is no narrower, and the same if each mark stands once. */
+static void check_marks(const Words *r, int held)
+{
+    unsigned used = used_in(r[QUERY]);
+    size_t constants = r[SCHEMA].at[BIKUVOA_AT_CONSTANTS];
+    int wider = held_by(r[SCHEMA], replaced(r[QUERY], BIKUVOA_EVERYTHING, 0), r[VIEW]) == 1, once = 1;
+    for (size_t k = 0; k < BIKUVOA_MAX_MARKS; k++) once = once && places_of(r[QUERY], k) <= 1;
+    CHECK(once ? held == wider : held >= wider);
+    tied += held > wider;
+    if (!used || used >> (BIKUVOA_MAX_CONSTANTS - constants)) return;
+    Words schema = copied(UNMARKED + SCHEMA, r[SCHEMA].at, r[SCHEMA].words);
+    schema.at[BIKUVOA_AT_CONSTANTS] = BIKUVOA_MAX_CONSTANTS;
+    schema.at[BIKUVOA_AT_LOOSE] |= (uint16_t)((1u << BIKUVOA_MAX_CONSTANTS) - (1u << constants));
+    CHECK(held_by(schema, replaced(r[QUERY], BIKUVOA_CONSTANT, constants), r[VIEW]) == (uint64_t)held);
+}
+
+/* The written state has a fact for each mark that the query uses, and for no other; the object is in the query and outside the
+ * view. */
+static void check_written(const Words *r, Words written, uint64_t object)
+{
+    uint8_t in_query[BIKUVOA_MAX_OBJECTS], in_view[BIKUVOA_MAX_OBJECTS];
+    Words without[STATE + 1];
+    unsigned used = used_in(r[QUERY]), facts = 0;
+    for (size_t i = 0; i < bikuvoa_facts(written.at); i++) facts += bikuvoa_fact_kind(written.at, i) >= BIKUVOA_MARK_KINDS;
+    for (size_t k = 0; k < BIKUVOA_MAX_MARKS; k++) facts -= used >> k & 1;
+    CHECK(are_chosen(written, used) && facts == 0);
+    shared += share(written, (1u << r[SCHEMA].at[BIKUVOA_AT_CONSTANTS]) - 1) != 0;
+    marked += used != 0;
+    if (!unmarked(r, written, without)) return;
+    CHECK(selected(without, without[QUERY], without[STATE], BIKUVOA_MAX_OBJECTS, in_query) == 0 && in_query[object]);
+    CHECK(selected(without, without[VIEW], without[STATE], BIKUVOA_MAX_OBJECTS, in_view) == 0 && !in_view[object]);
+}
+
 /* Held: nothing is written, and the input's own state is no counterexample. Open: the written state is one, by the object. */
 static uint16_t check_decide(const Words *r, size_t room)
 {
-    uint8_t in_query[BIKUVOA_MAX_OBJECTS], in_view[BIKUVOA_MAX_OBJECTS];
     uint64_t objects = UNTOUCHED_OUT, object = UNTOUCHED_OUT, found;
     Words l = lent(LENT, room);
     uint16_t returned = bikuvoa_decide(r[SCHEMA].at, r[SCHEMA].words, r[QUERY].at, r[QUERY].words, r[VIEW].at, r[VIEW].words,
@@ -449,10 +644,9 @@ static uint16_t check_decide(const Words *r, size_t room)
         CHECK(bikuvoa_state_length(l.at) <= l.words && untouched(l, bikuvoa_state_length(l.at)));
         Words written = copied(WRITTEN, l.at, bikuvoa_state_length(l.at));
         CHECK(check_counterexample(r, written, &found) == 0 && 0 < found && found <= object + 1);
-        CHECK(selected(r, r[QUERY], written, BIKUVOA_MAX_OBJECTS, in_query) == 0 && in_query[object]);
-        CHECK(selected(r, r[VIEW], written, BIKUVOA_MAX_OBJECTS, in_view) == 0 && !in_view[object]);
-        shared += share(written, (1u << r[SCHEMA].at[BIKUVOA_AT_CONSTANTS]) - 1) != 0;
+        check_written(r, written, object);
     }
+    if (verdict != BIKUVOA_REFUSED) check_marks(r, verdict == BIKUVOA_HELD);
     return returned;
 }
 
@@ -546,12 +740,6 @@ static uint16_t bad_sizes(Words schema)
     return w[BIKUVOA_AT_LOOSE] >> w[BIKUVOA_AT_CONSTANTS] ? BIKUVOA_BAD_LOOSE : 0;
 }
 
-/* Whether it is 0 or among these numbers. */
-static int is_among(uint16_t refusal, uint16_t lowest, uint16_t highest)
-{
-    return refusal == 0 || (lowest <= refusal && refusal <= highest);
-}
-
 /* The refusals of each record by itself, taken in the order of the checks, are those of the calls. */
 static uint16_t first(uint16_t one, uint16_t two)
 {
@@ -574,7 +762,8 @@ static void check_all(const Words *r, size_t select_room, uint16_t attribute, si
     uint8_t in_query[BIKUVOA_MAX_OBJECTS];
     uint64_t broken, found;
     uint16_t schema = bikuvoa_schema_refusal(r[SCHEMA].at, r[SCHEMA].words), sizes = bad_sizes(r[SCHEMA]);
-    uint16_t query = check_concept(r, r[QUERY]).query, view = check_concept(r, r[VIEW]).view;
+    Returned as = check_concept(r, r[QUERY]);
+    uint16_t query = as.query, concept = as.concept, view = check_concept(r, r[VIEW]).view;
     uint16_t state = broken_axiom(r, r[STATE], &broken);
     size_t objects = state ? 0 : r[STATE].at[BIKUVOA_AT_OBJECTS];
     size_t attributes = schema ? 0 : r[SCHEMA].at[BIKUVOA_AT_ATTRIBUTES];
@@ -585,9 +774,9 @@ static void check_all(const Words *r, size_t select_room, uint16_t attribute, si
     CHECK(schema || is_among(state, BIKUVOA_BAD_STATE_SHAPE, BIKUVOA_BAD_CONSTANTS));
     bad_loose += schema == BIKUVOA_BAD_LOOSE;
     CHECK(selected(r, r[QUERY], r[STATE], select_room, in_query)
-          == first(first(query, state), few_words(select_room, objects)));
-    CHECK(check_counterexample(r, r[STATE], &found) == first(first(query, view), state));
-    CHECK(check_links(r, attribute) == first(first(query, state), bad_attribute(attribute, attributes)));
+          == first(first(concept, state), few_words(select_room, objects)));
+    CHECK(check_counterexample(r, r[STATE], &found) == first(first(query, view), query ? 0 : bad_beside(r, state)));
+    CHECK(check_links(r, attribute) == first(first(concept, state), bad_attribute(attribute, attributes)));
     CHECK(check_decide(r, decide_room) == first(first(query, view), few_words(decide_room, BIKUVOA_DECIDE_WORDS)));
     CHECK(check_catalogue(r, rows_room, order_room)
           == first(first(schema, bad_views(r)), first(few_words(rows_room, BIKUVOA_MAX_VIEWS),
@@ -615,7 +804,7 @@ int LLVMFuzzerTestOneInput(const uint8_t *data, size_t size)
         r[SCHEMA] = built_schema(&in, d);
         r[QUERY] = built_concept(&in, d, QUERY, BIKUVOA_QUERY_STEPS);
         r[VIEW] = built_concept(&in, d, VIEW, BIKUVOA_VIEW_STEPS);
-        r[STATE] = built_state(&in, d);
+        r[STATE] = built_state(&in, d, r[QUERY]);
         r[VIEWS] = built_views(&in, d, r);
         for (size_t n = way % 8 < 4 ? 1 + way / 8 % 3 : 0; n > 0; n--) damage(&in, r);
     }
@@ -642,10 +831,11 @@ int main(int argc, char **argv)
     }
     printf("%ld inputs: held %lu, open %lu, refused %lu; links %lu, attribute not declared %lu; a class twice %lu, "
            "too many steps for a view %lu; groups of several views %lu, before a lower number %lu, another layout %lu; "
-           "loose and not declared %lu, one object of several constants %lu\n",
+           "loose and not declared %lu, one object of several constants %lu; open with marks %lu, held by one mark %lu, "
+           "mark without an object %lu\n",
            inputs, verdicts[BIKUVOA_HELD], verdicts[BIKUVOA_OPEN], verdicts[BIKUVOA_REFUSED], linked, undeclared, repeated,
-           many_steps, grouped, ahead, other_layout, bad_loose, shared);
+           many_steps, grouped, ahead, other_layout, bad_loose, shared, marked, tied, unchosen);
     return verdicts[BIKUVOA_HELD] && verdicts[BIKUVOA_OPEN] && verdicts[BIKUVOA_REFUSED] && linked && undeclared && repeated
-           && many_steps && grouped && ahead && other_layout && bad_loose && shared ? 0 : 1;
+           && many_steps && grouped && ahead && other_layout && bad_loose && shared && marked && tied && unchosen ? 0 : 1;
 }
 #endif

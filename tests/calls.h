@@ -12,7 +12,8 @@
 
 enum { SCHEMA, QUERY, VIEW, STATE, LENT, ATTRIBUTE, VIEWS, ORDER, PLACES };
 enum {
-    CHECK_CONCEPT, CHECK_VIEW, SELECT, LEGAL, COUNTEREXAMPLE, LINKS_BY_FIRST, LINKS_BY_SECOND, DECIDE, HOLDS, CATALOGUE, ENTRIES
+    CHECK_CONCEPT, CHECK_QUERY, CHECK_VIEW, SELECT, LEGAL, COUNTEREXAMPLE, LINKS_BY_FIRST, LINKS_BY_SECOND, DECIDE, HOLDS,
+    CATALOGUE, ENTRIES
 };
 
 #define ON(...) ((const Record[PLACES]){__VA_ARGS__})
@@ -35,6 +36,9 @@ static int call(int entry, const Record *r, uint16_t *words, uint64_t *outs)
     case CHECK_CONCEPT:
         return bikuvoa_check_concept(schema.at, schema.words, query.at, query.words, &sets[CLASS_SET], &sets[ATTRIBUTE_SET],
                                      outs);
+    case CHECK_QUERY:
+        return bikuvoa_check_query(schema.at, schema.words, query.at, query.words, &sets[CLASS_SET], &sets[ATTRIBUTE_SET],
+                                   outs);
     case CHECK_VIEW:
         return bikuvoa_check_view(schema.at, schema.words, view.at, view.words, &sets[CLASS_SET], &sets[ATTRIBUTE_SET], outs);
     case SELECT:

@@ -2,9 +2,9 @@
  * examples; every way in which up to four classes include each other; and every refusal, with what comes before what. In each
  * answer the rows are held to bikuvoa_holds, and the order to its definition. Not proved; it prints how many checks passed. */
 #include "records.h"
+#include "sets.h"
 
 #define MOST BIKUVOA_MAX_VIEWS
-#define BIT(n) (1u << (n))
 #define ROW_PATTERN 0xB0E0
 #define ORDER_PATTERN 0xD0E0
 #define GROUPS_PATTERN UINT64_C(0xBEEFBEEFBEEFBEEF)
@@ -52,11 +52,6 @@ static void refused(Record schema, Record views, int number, const char *what, i
     refused_with(MOST - 1, MOST, schema, views, number, what, row);
     refused_with(MOST, MOST - 1, schema, views, number, what, row);
     refused_with(0, 0, schema, views, number, what, row);
-}
-
-static int has(uint16_t set, size_t i)
-{
-    return set >> i & 1;
 }
 
 /* Word i is what bikuvoa_holds says of view i and each view; the words past the last view are 0. */
@@ -520,9 +515,10 @@ enum { SCHEMA_FAULTS = 3 };
 static const int SCHEMA_NUMBER[SCHEMA_FAULTS] = {1, 14, 2};
 static Record bad_schemas[SCHEMA_FAULTS];
 
-/* A faulty view for each of 3 to 6, and more for 3 and 6: without words, a word too long and too short, a step too many. */
-enum { FAULTS = 8 };
-static const int NUMBER[FAULTS] = {3, 4, 5, 6, 3, 3, 3, 6};
+/* A faulty view for each of 3 to 6, and more for 3, 6 and 4: without words, a word too long and too short, a step too many, a
+ * mark. */
+enum { FAULTS = 9 };
+static const int NUMBER[FAULTS] = {3, 4, 5, 6, 3, 3, 3, 6, 4};
 static Record faulty[FAULTS];
 
 static void make_faults(void)
@@ -543,6 +539,7 @@ static void make_faults(void)
     faulty[6] = (Record){everything.words - 1, everything.at};
     faulty[7] = concept_of((Tokens)TOKENS(EMPTY, ANY_FORWARD(0), ANY_FORWARD(0), ANY_FORWARD(0), ANY_FORWARD(0), ANY_FORWARD(0),
                                           ANY_FORWARD(0), ANY_FORWARD(0), REACHED));
+    faulty[8] = concept_of((Tokens)TOKENS(MARK(0)));
 }
 
 /* More views than a byte can count. */

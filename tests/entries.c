@@ -1,9 +1,11 @@
 /* The entries, called from C through include/bikuvoa.h: document 01's twelve small states, a triple of each verdict, links
  * counted by hand, what concepts name, every refusal that each entry has, alone and with later faults beside it, records
  * checked one at a time, null pointers, states and concepts at the limits, and the deepest concepts on the documented stack.
- * What a catalogue answers is in catalogue.c. Not proved; it prints how many checks passed. */
+ * What a catalogue answers is in catalogue.c, and what marks do in marks.c. Not proved; it prints how many checks passed. */
 #define _DEFAULT_SOURCE
 #include "calls.h"
+#include "marked.h"
+#include "sets.h"
 #include <pthread.h>
 #include <sys/mman.h>
 
@@ -38,10 +40,10 @@ static Record mentioning_all(void)
     return (Record){schema.length, schema.words};
 }
 
-/* State S: two persons wear one strap, and the constant names the first of them. */
-static Record state_s(void)
+/* State S: two persons wear one strap, and the constant names the first of them. With so many marks. */
+static Record state_s(size_t marks)
 {
-    size_t words = BIKUVOA_STATE_WORDS(6);
+    size_t words = BIKUVOA_STATE_WORDS(6 + marks);
     bikuvoa_state s = bikuvoa_start_state(take(words), words, 3);
     bikuvoa_member(&s, PERSON, 0);
     bikuvoa_member(&s, PERSON, 1);
@@ -49,6 +51,7 @@ static Record state_s(void)
     bikuvoa_pair(&s, WEARS, 0, 2);
     bikuvoa_pair(&s, WEARS, 1, 2);
     bikuvoa_name(&s, 0, 0);
+    for (size_t k = 0; k < marks; k++) bikuvoa_choose(&s, k, k % 3);
     return (Record){s.length, s.words};
 }
 
@@ -75,7 +78,7 @@ static void make_records(void)
     one_attribute = declaring(0, 1, 0);
     all_declared = declaring(24, 8, 4);
     all_mentioned = mentioning_all();
-    s = state_s();
+    s = state_s(0);
     bikuvoa_state empty = bikuvoa_start_state(take(BIKUVOA_STATE_WORDS(0)), BIKUVOA_STATE_WORDS(0), 0);
     no_objects = (Record){empty.length, empty.words};
     everything = concept_of((Tokens)TOKENS(EVERYTHING));
@@ -145,7 +148,7 @@ static void checked(int entry, const Record *r, int returned, Named then, const 
     check(outs[0] == 97 && outs[2] == 99, "beside the count of names", 10 * row + entry);
 }
 
-/* Both checks say that the concept names just this, whatever the axioms mention, but refuse it where it has too many steps. */
+/* Each check says that the concept names just this, whatever the axioms mention, but refuses it where it has too many steps. */
 static void names(Record concept, Named named, const char *what, int row)
 {
     for (int entry = CHECK_CONCEPT; entry <= CHECK_VIEW; entry++) {
@@ -156,7 +159,7 @@ static void names(Record concept, Named named, const char *what, int row)
     }
 }
 
-/* Both checks refuse the concept with this number. */
+/* Each check refuses the concept with this number. */
 static void refused(Record schema, Record concept, int number, const char *what, int row)
 {
     for (int entry = CHECK_CONCEPT; entry <= CHECK_VIEW; entry++)
@@ -167,7 +170,7 @@ static void refused(Record schema, Record concept, int number, const char *what,
 
 static const struct {
     Tokens tokens;
-    uint16_t marks[3];
+    uint16_t flags[3];
 } SELECTIONS[] = {
     {TOKENS(EVERYTHING), {1, 1, 1}},
     {TOKENS(CONSTANT(0)), {1, 0, 0}},
@@ -184,13 +187,13 @@ static void twelve_states(void)
 {
     uint64_t out = 99;
     for (int row = 0; row < (int)(sizeof SELECTIONS / sizeof *SELECTIONS); row++) {
-        uint16_t marked[4] = {UNTOUCHED, UNTOUCHED, UNTOUCHED, UNTOUCHED};
-        const uint16_t *marks = SELECTIONS[row].marks;
+        uint16_t flagged[4] = {UNTOUCHED, UNTOUCHED, UNTOUCHED, UNTOUCHED};
+        const uint16_t *flags = SELECTIONS[row].flags;
         Record concept = concept_of(SELECTIONS[row].tokens);
-        check(call(SELECT, ON(x, concept, NONE, s, WORDS(4)), marked, &out) == 0, "select", row);
-        check(memcmp(marked, marks, sizeof SELECTIONS[row].marks) == 0 && marked[3] == UNTOUCHED, "marks", row);
-        check(out == (uint64_t)marks[0] + marks[1] + marks[2], "selected", row);
-        links(ON(x, concept, NONE, s, NONE, NUMBER(WEARS)), 0, (uint64_t)marks[0] + marks[1], "links of S", row);
+        check(call(SELECT, ON(x, concept, NONE, s, WORDS(4)), flagged, &out) == 0, "select", row);
+        check(memcmp(flagged, flags, sizeof SELECTIONS[row].flags) == 0 && flagged[3] == UNTOUCHED, "flags", row);
+        check(out == (uint64_t)flags[0] + flags[1] + flags[2], "selected", row);
+        links(ON(x, concept, NONE, s, NONE, NUMBER(WEARS)), 0, (uint64_t)flags[0] + flags[1], "links of S", row);
     }
     check(call(LEGAL, ON(x, NONE, NONE, s), NULL, &out) == 0 && out == 0, "legal", 'j');
     check(call(LEGAL, ON(x_needs, NONE, NONE, s), NULL, &out) == 0 && out == 3, "legal", 'k');
@@ -237,9 +240,9 @@ static void yes_or_no(void)
 
 /* The places that each entry has. */
 static const int HAS[ENTRIES][PLACES] = {
-    {1, 1, 0, 0, 0, 0, 0, 0}, {1, 0, 1, 0, 0, 0, 0, 0}, {1, 1, 0, 1, 1, 0, 0, 0}, {1, 0, 0, 1, 0, 0, 0, 0},
-    {1, 1, 1, 1, 0, 0, 0, 0}, {1, 1, 0, 1, 0, 1, 0, 0}, {1, 1, 0, 1, 0, 1, 0, 0}, {1, 1, 1, 0, 1, 0, 0, 0},
-    {1, 1, 1, 0, 0, 0, 0, 0}, {1, 0, 0, 0, 1, 0, 1, 1},
+    {1, 1, 0, 0, 0, 0, 0, 0}, {1, 1, 0, 0, 0, 0, 0, 0}, {1, 0, 1, 0, 0, 0, 0, 0}, {1, 1, 0, 1, 1, 0, 0, 0},
+    {1, 0, 0, 1, 0, 0, 0, 0}, {1, 1, 1, 1, 0, 0, 0, 0}, {1, 1, 0, 1, 0, 1, 0, 0}, {1, 1, 0, 1, 0, 1, 0, 0},
+    {1, 1, 1, 0, 1, 0, 0, 0}, {1, 1, 1, 0, 0, 0, 0, 0}, {1, 0, 0, 0, 1, 0, 1, 1},
 };
 
 /* What each place is refused by, in the order of the checks. */
@@ -339,16 +342,19 @@ static void checks(void)
 {
     Record seven = chain(BIKUVOA_VIEW_STEPS + 1);
     check(bikuvoa_query_refusal(x.at, x.words, seven.at, seven.words) == BIKUVOA_ACCEPTED, "a query of seven steps", 0);
+    check(bikuvoa_concept_refusal(x.at, x.words, seven.at, seven.words) == BIKUVOA_ACCEPTED, "seven steps by themselves", 0);
     check(bikuvoa_view_refusal(x.at, x.words, seven.at, seven.words) == BIKUVOA_BAD_STEPS, "a view of seven steps", 0);
     uint64_t held = 99;
     check(call(HOLDS, ON(x, person, seven), NULL, &held) == BIKUVOA_BAD_STEPS && held == 99, "seven steps in a view", 0);
     check(call(HOLDS, ON(x, seven, person), NULL, &held) == 0 && held == 1, "seven steps in a query", 0);
     check(bikuvoa_view_refusal(x.at, x.words, person.at, person.words) == BIKUVOA_ACCEPTED, "a view", 0);
     check(bikuvoa_query_refusal(x.at, x.words, NULL, 0) == BIKUVOA_BAD_CONCEPT_SHAPE, "no query", 0);
+    check(bikuvoa_concept_refusal(x.at, x.words, NULL, 0) == BIKUVOA_BAD_CONCEPT_SHAPE, "no concept", 0);
     check(bikuvoa_view_refusal(x.at, x.words, NULL, 0) == BIKUVOA_BAD_CONCEPT_SHAPE, "no view", 0);
     for (int n = 0; has_refusal(QUERY, n); n++) {
         Record bad = bad_concepts[n];
         check(bikuvoa_query_refusal(x.at, x.words, bad.at, bad.words) == REFUSALS[QUERY][n], "a faulty query", n);
+        check(bikuvoa_concept_refusal(x.at, x.words, bad.at, bad.words) == REFUSALS[QUERY][n], "a faulty concept", n);
         check(bikuvoa_view_refusal(x.at, x.words, bad.at, bad.words) == REFUSALS[VIEW][n], "a faulty view", n);
     }
     check(bikuvoa_schema_refusal(x.at, x.words) == BIKUVOA_ACCEPTED, "a schema", 0);
@@ -357,23 +363,9 @@ static void checks(void)
         Record bad = bad_schemas[n];
         check(bikuvoa_schema_refusal(bad.at, bad.words) == REFUSALS[SCHEMA][n], "a faulty schema", n);
         check(bikuvoa_query_refusal(bad.at, bad.words, person.at, person.words) == REFUSALS[SCHEMA][n], "its query", n);
+        check(bikuvoa_concept_refusal(bad.at, bad.words, person.at, person.words) == REFUSALS[SCHEMA][n], "its concept", n);
         check(bikuvoa_view_refusal(bad.at, bad.words, person.at, person.words) == REFUSALS[SCHEMA][n], "its view", n);
     }
-}
-
-/* 480 objects in every class, each with itself as its value of every attribute, object 0 with 16 more values of attribute
- * 0, and four constants: 15,380 facts. */
-static bikuvoa_state largest_state(void)
-{
-    static uint16_t words[BIKUVOA_STATE_WORDS(BIKUVOA_MAX_FACTS + 1)];
-    bikuvoa_state largest = bikuvoa_start_state(words, sizeof words / sizeof *words, 480);
-    for (size_t d = 0; d < 480; d++) {
-        for (size_t a = 0; a < 24; a++) bikuvoa_member(&largest, a, d);
-        for (size_t p = 0; p < 8; p++) bikuvoa_pair(&largest, p, d, d);
-    }
-    for (size_t e = 1; e <= 16; e++) bikuvoa_pair(&largest, 0, 0, e);
-    for (size_t k = 0; k < 4; k++) bikuvoa_name(&largest, k, k);
-    return largest;
 }
 
 /* A ring of n objects along attribute 0, in which the last is also a value of its own. */
@@ -402,7 +394,7 @@ static Record padded(Tokens tokens, size_t pairs)
 static void sizes(void)
 {
     static const size_t OBJECTS[] = {4, 63, 64, 65, 127, 128, 129, 191, 192, 193, 256, 257, 383, 384, 385, 479, 480};
-    static uint16_t marks[BIKUVOA_MAX_OBJECTS];
+    static uint16_t flags[BIKUVOA_MAX_OBJECTS];
     Tokens own = TOKENS(EMPTY, EVERYTHING, FORWARD(0), EMPTY, COMMON);
     Tokens onward = TOKENS(EMPTY, EVERYTHING, FORWARD(0), EVERYTHING, FORWARD(0), EMPTY, EVERYTHING, FORWARD(0), COMMON);
     for (size_t i = 0; i < sizeof OBJECTS / sizeof *OBJECTS; i++) {
@@ -411,11 +403,11 @@ static void sizes(void)
         for (size_t pairs = 0; pairs <= 26; pairs++) {
             uint64_t out = 99;
             int row = (int)(100 * n + pairs);
-            check(call(SELECT, ON(one_attribute, padded(own, pairs), NONE, state, WORDS(n)), marks, &out) == 0 && out == 1
-                      && marks[n - 1] == 1, "the last object's own value", row);
+            check(call(SELECT, ON(one_attribute, padded(own, pairs), NONE, state, WORDS(n)), flags, &out) == 0 && out == 1
+                      && flags[n - 1] == 1, "the last object's own value", row);
             links(ON(one_attribute, padded(own, pairs), NONE, state), 0, 2, "the last object's links", row);
-            check(call(SELECT, ON(one_attribute, padded(onward, pairs), NONE, state, WORDS(n)), marks, &out) == 0 && out == 2
-                      && marks[n - 1] == 1 && marks[n - 2] == 1, "a value's value", row);
+            check(call(SELECT, ON(one_attribute, padded(onward, pairs), NONE, state, WORDS(n)), flags, &out) == 0 && out == 2
+                      && flags[n - 1] == 1 && flags[n - 2] == 1, "a value's value", row);
             links(ON(one_attribute, padded(onward, pairs), NONE, state), 0, 3, "the last two objects' links", row);
         }
         links(ON(one_attribute, everything, NONE, state), 0, n + 1, "all links", (int)n);
@@ -424,27 +416,27 @@ static void sizes(void)
 
 static void limits(void)
 {
-    static uint16_t marks[481];
+    static uint16_t flags[481];
     uint16_t words[BIKUVOA_SCHEMA_WORDS(1)];
     bikuvoa_schema declares_all = bikuvoa_start_schema(words, BIKUVOA_SCHEMA_WORDS(1), 24, 8, 4);
     bikuvoa_relates(&declares_all, 0, 0, 0);
-    bikuvoa_state largest = largest_state();
+    bikuvoa_state largest = largest_state(0);
     Record schema = {declares_all.length, declares_all.words}, state = {largest.length, largest.words};
     Record path = concept_of((Tokens)TOKENS(EMPTY, CLASS(23), FORWARD(7), REACHED));
     uint64_t out = 99;
-    check(state.words == 30762, "the words of the largest state", 0);
-    marks[480] = UNTOUCHED;
-    check(call(SELECT, ON(schema, path, NONE, state, WORDS(481)), marks, &out) == 0 && out == 480 && marks[479] == 1
-              && marks[480] == UNTOUCHED, "480 objects", 1);
-    check(call(SELECT, ON(schema, path, NONE, state, WORDS(480)), marks, &out) == 0, "480 lent words", 2);
-    check(call(SELECT, ON(schema, path, NONE, state, WORDS(479)), marks, &out) == 11, "479 lent words", 3);
+    check(state.words == 30770, "the words of the largest state", 0);
+    flags[480] = UNTOUCHED;
+    check(call(SELECT, ON(schema, path, NONE, state, WORDS(481)), flags, &out) == 0 && out == 480 && flags[479] == 1
+              && flags[480] == UNTOUCHED, "480 objects", 1);
+    check(call(SELECT, ON(schema, path, NONE, state, WORDS(480)), flags, &out) == 0, "480 lent words", 2);
+    check(call(SELECT, ON(schema, path, NONE, state, WORDS(479)), flags, &out) == 11, "479 lent words", 3);
     check(call(LEGAL, ON(schema, NONE, NONE, state), NULL, &out) == 0 && out == 0, "legal at the limits", 4);
     largest.words[BIKUVOA_AT_OBJECTS] = 481;
     check(call(LEGAL, ON(schema, NONE, NONE, state), NULL, &out) == 7, "481 objects", 5);
     largest.words[BIKUVOA_AT_OBJECTS] = 480;
-    bikuvoa_pair(&largest, 0, 0, 17);
+    bikuvoa_pair(&largest, 0, 0, 21);
     state.words = largest.length;
-    check(call(LEGAL, ON(schema, NONE, NONE, state), NULL, &out) == 7, "15,381 facts", 6);
+    check(call(LEGAL, ON(schema, NONE, NONE, state), NULL, &out) == 7, "15,385 facts", 6);
 }
 
 /* Links. */
@@ -469,8 +461,8 @@ static Record season(void)
 }
 
 /* The first 300 of 480 objects are persons, the last 100 straps. Of attribute 0 object 0 has every value, and every object has
- * the last as a value; of attribute 1 each has itself and the next 28; of attribute 2 the first 101 have themselves. That makes
- * 15,380 facts. */
+ * the last as a value; of attribute 1 each has itself and the next 28; of attribute 2 the first 105 have themselves. That makes
+ * 15,384 facts. */
 static Record crowd(void)
 {
     static uint16_t words[BIKUVOA_MAX_STATE_WORDS];
@@ -481,7 +473,7 @@ static Record crowd(void)
         bikuvoa_pair(&state, 0, 0, d);
         bikuvoa_pair(&state, 0, d, 479);
         for (size_t e = d; e < d + 29; e++) bikuvoa_pair(&state, 1, d, e % 480);
-        if (d < 101) bikuvoa_pair(&state, 2, d, d);
+        if (d < 105) bikuvoa_pair(&state, 2, d, d);
     }
     return (Record){state.length, state.words};
 }
@@ -491,18 +483,18 @@ static const struct {
     Tokens tokens;
     uint64_t in_season[4], in_crowd[4];
 } COUNTS[] = {
-    {TOKENS(CLASS(PERSON)), {7, 6, 1, 0}, {480 + 299, 300 * 29, 101, 0}},
+    {TOKENS(CLASS(PERSON)), {7, 6, 1, 0}, {480 + 299, 300 * 29, 105, 0}},
     {TOKENS(CLASS(STRAP)), {0, 2, 8, 0}, {100, 100 * 29, 0, 0}},
-    {TOKENS(EVERYTHING), {8, 9, 12, 0}, {480 + 479, 480 * 29, 101, 0}},
+    {TOKENS(EVERYTHING), {8, 9, 12, 0}, {480 + 479, 480 * 29, 105, 0}},
     {TOKENS(CLASS(PERSON), CLASS(STRAP), BOTH), {0, 0, 0, 0}, {0, 0, 0, 0}},
     {TOKENS(EMPTY, CLASS(STRAP), FORWARD(1), REACHED), {7, 6, 0, 0}, {128, 128 * 29, 0, 0}},
-    {TOKENS(EMPTY, EVERYTHING, FORWARD(2), EMPTY, COMMON), {0, 0, 0, 0}, {480 + 100, 101 * 29, 101, 0}},
+    {TOKENS(EMPTY, EVERYTHING, FORWARD(2), EMPTY, COMMON), {0, 0, 0, 0}, {480 + 104, 105 * 29, 105, 0}},
 };
 
 static void link_counts(void)
 {
     Record schema = declaring(2, 4, 0), few = season(), many = crowd();
-    check(many.words == BIKUVOA_MAX_STATE_WORDS, "15,380 facts", 0);
+    check(many.words == BIKUVOA_MAX_STATE_WORDS, "15,384 facts", 0);
     for (int row = 0; row < (int)(sizeof COUNTS / sizeof *COUNTS); row++) {
         Record concept = concept_of(COUNTS[row].tokens);
         for (size_t p = 0; p < 4; p++) {
@@ -561,8 +553,6 @@ static void what_links_take(void)
 
 /* Names. */
 
-#define BIT(n) (1u << (n))
-
 static const struct {
     Tokens tokens;
     Named named;
@@ -596,7 +586,7 @@ static Record classes_of(uint32_t set)
     bikuvoa_concept c = bikuvoa_start_concept(words, BIKUVOA_MAX_CONCEPT_WORDS);
     bikuvoa_everything(&c);
     for (size_t a = 0; a < 24; a++) {
-        if (!(set & BIT(a))) continue;
+        if (!has(set, a)) continue;
         bikuvoa_class(&c, a);
         bikuvoa_both(&c);
     }
@@ -713,11 +703,12 @@ static void undeclared_names(void)
     }
 }
 
-/* Sorts that are not in the table, also one that cut to a byte would be, and arguments where none is taken. */
+/* Sorts that are not in the table, also some that cut to a byte would be, and arguments where none is taken. */
 static const Tokens FAULTY[] = {
-    TOKENS({0, 0}), TOKENS({BIKUVOA_COMMON + 1, 0}), TOKENS({256 + BIKUVOA_CLASS, 0}), TOKENS({65535, 0}),
-    TOKENS({BIKUVOA_EVERYTHING, 1}), TOKENS({BIKUVOA_EMPTY, 1}, REACHED), TOKENS(EMPTY, {BIKUVOA_REACHED, 1}),
-    TOKENS(EVERYTHING, EVERYTHING, {BIKUVOA_BOTH, 1}), TOKENS(EMPTY, EMPTY, {BIKUVOA_COMMON, 1}),
+    TOKENS({0, 0}), TOKENS({BIKUVOA_MARK + 1, 0}), TOKENS({256 + BIKUVOA_CLASS, 0}), TOKENS({256 + BIKUVOA_MARK, 0}),
+    TOKENS({65535, 0}), TOKENS({BIKUVOA_EVERYTHING, 1}), TOKENS({BIKUVOA_EMPTY, 1}, REACHED),
+    TOKENS(EMPTY, {BIKUVOA_REACHED, 1}), TOKENS(EVERYTHING, EVERYTHING, {BIKUVOA_BOTH, 1}),
+    TOKENS(EMPTY, EMPTY, {BIKUVOA_COMMON, 1}),
 };
 
 static void faulty_tokens(void)
@@ -810,19 +801,27 @@ static void run_on_documented(int entry, const Record *r)
     if (mprotect(stack, below, PROT_READ | PROT_WRITE)) abort();
 }
 
-/* The deepest concepts: of one class, with steps along all attributes in turn. */
+/* The deepest concepts: of one class, with steps along all attributes in turn. A marked one has a mark in place of every fourth
+ * class, one mark after the other. */
 
 typedef struct {
     bikuvoa_concept c;
     size_t class, attributes;
+    int marked;
 } Deep;
 
 #define ALL_REACHED -1
 
-/* As many classes as so many tokens can join, each with all that follow it. */
+static void put_place(Deep *d, int i)
+{
+    if (d->marked && i % 4 == 0) bikuvoa_mark(&d->c, (size_t)i / 4 % BIKUVOA_MAX_MARKS);
+    else bikuvoa_class(&d->c, d->class);
+}
+
+/* As many places as so many tokens can join, each with all that follow it. */
 static void join(Deep *d, int tokens)
 {
-    for (int i = 0; i < (tokens + 1) / 2; i++) bikuvoa_class(&d->c, d->class);
+    for (int i = 0; i < (tokens + 1) / 2; i++) put_place(d, i);
     for (int i = 1; i < (tokens + 1) / 2; i++) bikuvoa_both(&d->c);
 }
 
@@ -852,7 +851,7 @@ static void put_path(Deep *d, int first, int steps, int backward)
     bikuvoa_empty(&d->c);
     for (int i = first; i < first + steps; i++) {
         size_t attribute = (size_t)i % d->attributes;
-        bikuvoa_class(&d->c, d->class);
+        put_place(d, i);
         if (backward) bikuvoa_backward(&d->c, attribute);
         else bikuvoa_forward(&d->c, attribute);
     }
@@ -862,10 +861,10 @@ static void put_path(Deep *d, int first, int steps, int backward)
 /* A query of the last shape, paths of four steps from one object, has the most objects to ask the view for. */
 enum { NESTED = 10, JOINED = NESTED, FORWARD_PATH, BACKWARD_PATH, STAR, SHAPES };
 
-static Record deepest(uint16_t *words, size_t class, size_t attributes, int steps, int shape)
+static Record deepest(uint16_t *words, size_t class, size_t attributes, int steps, int shape, int marked)
 {
     static const int REACHED_AT[NESTED / 2] = {1, 6, 11, 16, ALL_REACHED};
-    Deep d = {bikuvoa_start_concept(words, BIKUVOA_MAX_CONCEPT_WORDS), class, attributes};
+    Deep d = {bikuvoa_start_concept(words, BIKUVOA_MAX_CONCEPT_WORDS), class, attributes, marked};
     if (shape < NESTED) {
         nest(&d, steps, REACHED_AT[shape / 2], shape % 2, BIKUVOA_MAX_TOKENS);
     } else if (shape == JOINED) {
@@ -896,13 +895,30 @@ static Record limit_schema(void)
     return (Record){schema.length, schema.words};
 }
 
+/* How many marks the query uses: they are numbered without gaps. */
+static size_t marks_of(Record query)
+{
+    size_t n = query.at[BIKUVOA_AT_TOKENS], marks = 0;
+    for (size_t i = BIKUVOA_CONCEPT_SIZES; i < BIKUVOA_CONCEPT_SIZES + n; i++)
+        if (query.at[i] == BIKUVOA_MARK && query.at[i + n] >= marks) marks = query.at[i + n] + 1u;
+    return marks;
+}
+
+static Record state_with(int limits, size_t marks)
+{
+    if (!limits) return state_s(marks);
+    bikuvoa_state largest = largest_state(marks);
+    return (Record){largest.length, largest.words};
+}
+
 /* What a call takes beside the thread's own start, which may be deeper than a small call. */
 static void measure(const Record *r, int row, size_t *most)
 {
     size_t own = stack_of(NO_ENTRY, r);
     for (int entry = 0; entry < ENTRIES; entry++) {
+        if (marks_of(r[QUERY]) > 0 && !takes_marks(entry)) continue;
         size_t all = stack_of(entry, r), bytes = all > own ? all - own : 0;
-        check(bytes <= BIKUVOA_STACK_BYTES, "the stack", 10 * row + entry);
+        check(bytes <= BIKUVOA_STACK_BYTES, "the stack", 100 * row + entry);
         run_on_documented(entry, r);
         if (bytes > most[entry]) most[entry] = bytes;
     }
@@ -915,39 +931,43 @@ static Record deepest_views(size_t class, size_t attributes)
     uint16_t view_words[BIKUVOA_MAX_CONCEPT_WORDS];
     bikuvoa_views views = bikuvoa_start_views(words, BIKUVOA_MAX_CATALOGUE_WORDS);
     for (int i = 0; i < BIKUVOA_MAX_VIEWS; i++) {
-        Record view = deepest(view_words, i < SHAPES ? PERSON : class, attributes, BIKUVOA_VIEW_STEPS, i % SHAPES);
+        Record view = deepest(view_words, i < SHAPES ? PERSON : class, attributes, BIKUVOA_VIEW_STEPS, i % SHAPES, 0);
         bikuvoa_view(&views, view.at, view.words);
     }
     return (Record){views.length, words};
 }
 
-static void stacks(void)
+/* Every shape as the query, and as the view of a query with many objects. */
+static void measure_shapes(int limits, int marked, size_t *most)
 {
     static uint16_t query_words[BIKUVOA_MAX_CONCEPT_WORDS], view_words[BIKUVOA_MAX_CONCEPT_WORDS];
-    size_t most[ENTRIES] = {0};
-    bikuvoa_state largest = largest_state();
-    const Record lent_words = WORDS(BIKUVOA_DECIDE_WORDS), full = {largest.length, largest.words};
-    const Record order_words = WORDS(BIKUVOA_MAX_VIEWS);
-    for (int limits = 0; limits < 2; limits++) {
-        Record schema = limits ? limit_schema() : x, state = limits ? full : s;
-        size_t attributes = schema.at[BIKUVOA_AT_ATTRIBUTES], last_class = schema.at[BIKUVOA_AT_CLASSES] - 1u;
-        Record views = deepest_views(last_class, attributes);
-        for (int shape = 0; shape < SHAPES; shape++) {
-            Record query = deepest(query_words, PERSON, attributes, BIKUVOA_QUERY_STEPS, shape);
-            measure(ON(schema, query, person, state, lent_words, NUMBER(WEARS), views, order_words), 100 * limits + shape,
-                    most);
-            query = deepest(query_words, PERSON, attributes, BIKUVOA_QUERY_STEPS, STAR);
-            Record view = deepest(view_words, last_class, attributes, BIKUVOA_VIEW_STEPS, shape);
-            measure(ON(schema, query, view, state, lent_words, NUMBER(WEARS), views, order_words),
-                    100 * limits + SHAPES + shape, most);
-        }
+    const Record lent_words = WORDS(BIKUVOA_DECIDE_WORDS), order_words = WORDS(BIKUVOA_MAX_VIEWS);
+    Record schema = limits ? limit_schema() : x;
+    size_t attributes = schema.at[BIKUVOA_AT_ATTRIBUTES], last_class = schema.at[BIKUVOA_AT_CLASSES] - 1u;
+    Record views = deepest_views(last_class, attributes);
+    for (int shape = 0; shape < 2 * SHAPES; shape++) {
+        int as_view = shape >= SHAPES;
+        Record query = deepest(query_words, PERSON, attributes, BIKUVOA_QUERY_STEPS, as_view ? STAR : shape, marked);
+        Record view = as_view ? deepest(view_words, last_class, attributes, BIKUVOA_VIEW_STEPS, shape - SHAPES, 0) : person;
+        Record state = state_with(limits, marks_of(query));
+        measure(ON(schema, query, view, state, lent_words, NUMBER(WEARS), views, order_words),
+                1000 * marked + 100 * limits + shape, most);
     }
-    check(most_objects > 300, "a verdict that needs many objects", 0);
-    printf("stack, measured in KB: check of a concept %zu, of a view %zu, select %zu, legal %zu, counterexample %zu, "
-           "links by first %zu, links by second %zu, decide %zu, holds %zu, catalogue %zu; allowed %d\n",
-           most[CHECK_CONCEPT] / 1024, most[CHECK_VIEW] / 1024, most[SELECT] / 1024, most[LEGAL] / 1024,
-           most[COUNTEREXAMPLE] / 1024, most[LINKS_BY_FIRST] / 1024, most[LINKS_BY_SECOND] / 1024, most[DECIDE] / 1024,
-           most[HOLDS] / 1024, most[CATALOGUE] / 1024, BIKUVOA_STACK_BYTES / 1024);
+}
+
+static void stacks(void)
+{
+    size_t most[ENTRIES] = {0};
+    for (int marked = 0; marked < 2; marked++) {
+        most_objects = 0;
+        for (int limits = 0; limits < 2; limits++) measure_shapes(limits, marked, most);
+        check(most_objects > 300, "a verdict that needs many objects", marked);
+    }
+    printf("stack, measured in KB: check of a concept %zu, of a query %zu, of a view %zu, select %zu, legal %zu, "
+           "counterexample %zu, links by first %zu, links by second %zu, decide %zu, holds %zu, catalogue %zu; allowed %d\n",
+           most[CHECK_CONCEPT] / 1024, most[CHECK_QUERY] / 1024, most[CHECK_VIEW] / 1024, most[SELECT] / 1024,
+           most[LEGAL] / 1024, most[COUNTEREXAMPLE] / 1024, most[LINKS_BY_FIRST] / 1024, most[LINKS_BY_SECOND] / 1024,
+           most[DECIDE] / 1024, most[HOLDS] / 1024, most[CATALOGUE] / 1024, BIKUVOA_STACK_BYTES / 1024);
 }
 
 int main(void)

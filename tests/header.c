@@ -10,16 +10,17 @@
 
 static void numbers(void)
 {
-    check(BIKUVOA_DECIDE_WORDS == 30762, "the least lent words", 0);
+    check(BIKUVOA_DECIDE_WORDS == 30770, "the least lent words", 0);
     check(BIKUVOA_MAX_SCHEMA_WORDS == 197 && BIKUVOA_MAX_CONCEPT_WORDS == 130, "the largest schema and concept", 0);
     check(BIKUVOA_MAX_FACTS == BIKUVOA_MAX_OBJECTS * (BIKUVOA_MAX_CLASSES + BIKUVOA_MAX_ATTRIBUTES) + BIKUVOA_QUERY_STEPS
-                                   + BIKUVOA_MAX_CONSTANTS, "the most facts", 0);
-    check(BIKUVOA_ATTRIBUTE_KINDS == 24 && BIKUVOA_CONSTANT_KINDS == 32 && BIKUVOA_FACT_KINDS == 36, "the kinds of facts", 0);
+                                   + BIKUVOA_MAX_CONSTANTS + BIKUVOA_MAX_MARKS, "the most facts", 0);
+    check(BIKUVOA_ATTRIBUTE_KINDS == 24 && BIKUVOA_CONSTANT_KINDS == 32, "the kinds of attributes and constants", 0);
+    check(BIKUVOA_MARK_KINDS == 36 && BIKUVOA_FACT_KINDS == 40 && BIKUVOA_MAX_MARKS == 4, "the kinds of marks", 0);
     check(BIKUVOA_MAX_OBJECTS <= BIKUVOA_OBJECT_PART && BIKUVOA_MAX_CLASSES <= BIKUVOA_BYTE_PART, "parts of words", 0);
     check(BIKUVOA_MAX_CLASSES <= 32 && BIKUVOA_MAX_ATTRIBUTES <= 32, "a bit of a set for each", 0);
     check(BIKUVOA_AT_LOOSE == 4 && BIKUVOA_SCHEMA_SIZES == 5 && BIKUVOA_MAX_CONSTANTS <= 16, "a bit of the loose word", 0);
     check(BIKUVOA_MAX_VIEWS == 16 && BIKUVOA_MAX_CATALOGUE_WORDS == 2097, "the largest catalogue", 0);
-    check(BIKUVOA_RELATES == 5 && BIKUVOA_COMMON == 9 && BIKUVOA_BAD_LOOSE == 14, "the last of each list", 0);
+    check(BIKUVOA_RELATES == 5 && BIKUVOA_MARK == 10 && BIKUVOA_BAD_LOOSE == 14, "the last of each list", 0);
     check(BIKUVOA_VERSION >= 100, "the version", 0);
 }
 
@@ -100,7 +101,7 @@ static bikuvoa_concept recorded(uint16_t *words, size_t room)
     return c;
 }
 
-/* Axioms of every kind, with constants marked as loose before them, among them and after them, one of them twice. */
+/* Axioms of every kind, with constants made loose before them, among them and after them, one of them twice. */
 static bikuvoa_schema axioms(uint16_t *words, size_t room)
 {
     bikuvoa_schema s = bikuvoa_start_schema(words, room, 3, 2, 4);
@@ -115,11 +116,13 @@ static bikuvoa_schema axioms(uint16_t *words, size_t room)
     return s;
 }
 
-/* Facts in no order, and two of them twice. */
+/* Facts in no order, and three of them twice. */
 static bikuvoa_state facts(uint16_t *words, size_t room)
 {
     bikuvoa_state s = bikuvoa_start_state(words, room, 3);
+    bikuvoa_choose(&s, 3, 1);
     bikuvoa_name(&s, 1, 0);
+    bikuvoa_choose(&s, 0, 2);
     bikuvoa_pair(&s, 7, 1, 2);
     bikuvoa_pair(&s, 7, 1, 0);
     bikuvoa_member(&s, 23, 2);
@@ -128,6 +131,7 @@ static bikuvoa_state facts(uint16_t *words, size_t room)
     bikuvoa_name(&s, 0, 2);
     bikuvoa_member(&s, 23, 2);
     bikuvoa_pair(&s, 7, 1, 0);
+    bikuvoa_choose(&s, 3, 1);
     return s;
 }
 
@@ -203,9 +207,10 @@ static void bounds(void)
 static void literally(void)
 {
     static const uint16_t SCHEMA[] = {3, 2, 4, 5, 10, 256, 513, 770, 1026, 1281, 1, 258, 1, 0, 513};
-    static const uint16_t CONCEPT[] = {14, 2, 1, 2, 4, 5, 3, 6, 8, 4, 5, 2, 7, 5, 9, 4,
-                                       2, 0, 0, 0, 0, 1, 0, 0, 0, 0, 0, 0, 0, 0};
-    static const uint16_t STATE[] = {3, 7, 1, 11778, 15873, 15873, 15873, 16386, 16896, 0, 0, 0, 1, 2, 0, 0};
+    static const uint16_t CONCEPT[] = {16, 2, 1, 2, 4, 5, 3, 6, 8, 4, 5, 2, 7, 5, 9, 4, 10, 4,
+                                       2, 0, 0, 0, 0, 1, 0, 0, 0, 0, 0, 0, 0, 0, 3, 0};
+    static const uint16_t STATE[] = {3, 9, 1, 11778, 15873, 15873, 15873, 16386, 16896, 18434, 19969,
+                                     0, 0, 0, 1, 2, 0, 0, 0, 0};
     static const uint16_t CATALOGUE[] = {3, 14, 0, 22, 6, 1, 1, 5, 1, 6, 8, 4, 1, 0, 3, 3, 0, 0,
                                          10, 3, 1, 5, 1, 6, 2, 6, 1, 6, 8, 4, 0, 0, 2, 0, 0, 1, 3, 2, 0, 0};
     uint16_t words[LARGEST];
@@ -226,6 +231,8 @@ static void literally(void)
     bikuvoa_backward(&c, 0);
     bikuvoa_empty(&c);
     bikuvoa_common(&c);
+    bikuvoa_both(&c);
+    bikuvoa_mark(&c, 3);
     bikuvoa_both(&c);
     check(c.length * sizeof *words == sizeof CONCEPT && memcmp(words, CONCEPT, sizeof CONCEPT) == 0, "a concept's words", 0);
     check(facts(words, LARGEST).length * sizeof *words == sizeof STATE, "a state's length", 0);
@@ -281,15 +288,15 @@ static void long_view(void)
 
 static void states(void)
 {
-    static const size_t KINDS[] = {0, 23, 31, 31, 31, 32, 33};
-    static const size_t OBJECTS[] = {1, 2, 1, 1, 1, 2, 0};
-    static const size_t SECONDS[] = {0, 0, 0, 1, 2, 0, 0};
+    static const size_t KINDS[] = {0, 23, 31, 31, 31, 32, 33, 36, 39};
+    static const size_t OBJECTS[] = {1, 2, 1, 1, 1, 2, 0, 2, 1};
+    static const size_t SECONDS[] = {0, 0, 0, 1, 2, 0, 0, 0, 0};
     uint16_t words[LARGEST];
     bikuvoa_state s = facts(words, LARGEST);
     size_t i;
-    check(bikuvoa_facts(words) == 7 && s.length == BIKUVOA_STATE_WORDS(7), "seven facts", 0);
+    check(bikuvoa_facts(words) == 9 && s.length == BIKUVOA_STATE_WORDS(9), "nine facts", 0);
     check(bikuvoa_state_length(words) == s.length, "their words", 0);
-    for (i = 0; i < 7; i++) {
+    for (i = 0; i < 9; i++) {
         check(bikuvoa_fact_kind(words, i) == KINDS[i] && bikuvoa_fact_object(words, i) == OBJECTS[i]
                   && bikuvoa_fact_second(words, i) == SECONDS[i], "facts ascend", 0);
     }
@@ -327,15 +334,16 @@ static void large_numbers(void)
             if (way == 11) bikuvoa_relates(&s, 0, 0, n);
             check(bikuvoa_schema_refusal(s.words, s.length) == BIKUVOA_BAD_AXIOM, "an axiom", 100 * i + way);
         }
-        for (way = 0; way < 4; way++) {
+        for (way = 0; way < 5; way++) {
             c = bikuvoa_start_concept(other, LARGEST);
-            if (way > 1) bikuvoa_empty(&c);
-            if (way > 1) bikuvoa_everything(&c);
+            if (way > 2) bikuvoa_empty(&c);
+            if (way > 2) bikuvoa_everything(&c);
             if (way == 0) bikuvoa_class(&c, n);
             if (way == 1) bikuvoa_constant(&c, n);
-            if (way == 2) bikuvoa_forward(&c, n);
-            if (way == 3) bikuvoa_backward(&c, n);
-            if (way > 1) bikuvoa_reached(&c);
+            if (way == 2) bikuvoa_mark(&c, n);
+            if (way == 3) bikuvoa_forward(&c, n);
+            if (way == 4) bikuvoa_backward(&c, n);
+            if (way > 2) bikuvoa_reached(&c);
             got = bikuvoa_query_refusal(schema.words, schema.length, c.words, c.length);
             check(got == BIKUVOA_BAD_TOKEN, "a token", 100 * i + way);
         }
@@ -358,8 +366,8 @@ static void large_numbers(void)
     check(got == BIKUVOA_BAD_STATE_SHAPE, "65,536 objects", 0);
 }
 
-/* Marks constant k among so many, between two axioms; the schema's refusal. */
-static uint16_t marked(uint16_t *words, size_t constants, size_t k)
+/* Makes constant k loose among so many, between two axioms; the schema's refusal. */
+static uint16_t loosened(uint16_t *words, size_t constants, size_t k)
 {
     bikuvoa_schema s = bikuvoa_start_schema(words, BIKUVOA_SCHEMA_WORDS(2), 1, 1, constants);
     bikuvoa_subclass(&s, 0, 0);
@@ -368,7 +376,7 @@ static uint16_t marked(uint16_t *words, size_t constants, size_t k)
     return bikuvoa_schema_refusal(s.words, s.length);
 }
 
-/* A mark is accepted exactly if the constant is declared. A number that has no bit of its own marks no constant. */
+/* Accepted exactly if the constant is declared. A number that has no bit of its own makes no constant loose. */
 static void loose_numbers(void)
 {
     static const size_t LARGE[] = {16, 17, 31, 32, 63, 64, 65535, 65536, 65536 + 1, SIZE_MAX};
@@ -377,15 +385,59 @@ static void loose_numbers(void)
     int i, row = 0;
     for (constants = 0; constants <= BIKUVOA_MAX_CONSTANTS; constants++) {
         for (k = 0; k < 16; k++, row++) {
-            got = marked(words, constants, k);
-            check(words[BIKUVOA_AT_LOOSE] == 1u << k, "the mark of a constant", row);
+            got = loosened(words, constants, k);
+            check(words[BIKUVOA_AT_LOOSE] == 1u << k, "the bit of a constant", row);
             check(got == (k < constants ? BIKUVOA_ACCEPTED : BIKUVOA_BAD_LOOSE), "a loose constant", row);
         }
         for (i = 0; i < 10; i++, row++) {
-            got = marked(words, constants, LARGE[i]);
+            got = loosened(words, constants, LARGE[i]);
             check(got == BIKUVOA_BAD_LOOSE && words[BIKUVOA_AT_LOOSE] % (1u << BIKUVOA_MAX_CONSTANTS) == 0,
                   "a large number of a loose constant", row);
         }
+    }
+}
+
+/* Mark k in a query and in a state of three objects, where it is that object; what a counterexample to an empty class is
+ * refused by, or says. */
+static uint16_t chosen(size_t k, size_t object, uint64_t *found)
+{
+    static const uint16_t EMPTY_CLASS[] = {1, 0, 1, 0};
+    uint16_t schema_words[BIKUVOA_SCHEMA_WORDS(0)], words[BIKUVOA_CONCEPT_WORDS(1)], state_words[BIKUVOA_STATE_WORDS(1)];
+    bikuvoa_schema schema = bikuvoa_start_schema(schema_words, BIKUVOA_SCHEMA_WORDS(0), 1, 0, 0);
+    bikuvoa_concept query = bikuvoa_start_concept(words, BIKUVOA_CONCEPT_WORDS(1));
+    bikuvoa_state state = bikuvoa_start_state(state_words, BIKUVOA_STATE_WORDS(1), 3);
+    bikuvoa_mark(&query, k < BIKUVOA_MAX_MARKS ? k : 0);
+    bikuvoa_choose(&state, k, object);
+    return bikuvoa_counterexample(schema.words, schema.length, query.words, query.length, EMPTY_CLASS, 4, state.words,
+                                  state.length, found);
+}
+
+/* A mark is one of the first four, is accepted in a query alone, and is an object that is there. */
+static void mark_numbers(void)
+{
+    static const size_t NUMBERS[] = {0, 1, 2, 3, 4, 5, 91, 92, 127, 128, 256, 512, 65535, 65536, 65536 + 1, SIZE_MAX};
+    static const uint16_t NOTHING_DECLARED[BIKUVOA_SCHEMA_SIZES] = {0, 0, 0, 0, 0};
+    uint16_t words[BIKUVOA_CONCEPT_WORDS(1)];
+    bikuvoa_concept c;
+    uint64_t found;
+    size_t k, object;
+    int i;
+    for (i = 0; i < 16; i++) {
+        k = NUMBERS[i];
+        c = bikuvoa_start_concept(words, BIKUVOA_CONCEPT_WORDS(1));
+        bikuvoa_mark(&c, k);
+        check(bikuvoa_query_refusal(NOTHING_DECLARED, BIKUVOA_SCHEMA_SIZES, c.words, c.length)
+                  == (k < 4 ? BIKUVOA_ACCEPTED : BIKUVOA_BAD_TOKEN), "a mark of a query", i);
+        check(bikuvoa_concept_refusal(NOTHING_DECLARED, BIKUVOA_SCHEMA_SIZES, c.words, c.length) == BIKUVOA_BAD_TOKEN,
+              "a mark of a concept", i);
+        check(bikuvoa_view_refusal(NOTHING_DECLARED, BIKUVOA_SCHEMA_SIZES, c.words, c.length) == BIKUVOA_BAD_TOKEN,
+              "a mark of a view", i);
+        for (object = 0; object < 3; object++) {
+            found = 99;
+            check(chosen(k, object, &found) == (k < 4 ? BIKUVOA_ACCEPTED : BIKUVOA_BAD_FACT), "a mark of a state", i);
+            check(found == (k < 4 ? object + 1 : 99), "the object of a mark", i);
+        }
+        check(chosen(0, k < 3 ? 3 : k, &found) == BIKUVOA_BAD_FACT, "an object that is not there", i);
     }
 }
 
@@ -403,6 +455,7 @@ int main(int argc, char **argv)
     states();
     large_numbers();
     loose_numbers();
+    mark_numbers();
     printf("%d checks passed\n", passed);
     return 0;
 }

@@ -1,21 +1,15 @@
 /* Loose constants, called from C through include/bikuvoa.h: which loose words each entry refuses, and before what; which
  * constants may name one object in a state; and the verdicts, by hand, where a query or an axiom makes them one object. What a
  * catalogue makes of them is in catalogue.c. Not proved; it prints how many checks passed. */
-#include "calls.h"
+#include "refused.h"
+#include "sets.h"
 #include "verdict.h"
 
 enum { MOST = BIKUVOA_MAX_CONSTANTS, SUBSETS = 1 << MOST };
 enum { A, B, C, CLASSES };
 enum { P, Q, ATTRIBUTES };
 
-#define BIT(k) (1u << (k))
-
 /* Sets of constants, or of objects. */
-
-static int has(unsigned set, size_t k)
-{
-    return set >> k & 1;
-}
 
 static int count(unsigned set)
 {
@@ -66,31 +60,6 @@ static void around(Record *r, Record schema, size_t constants)
     memcpy(r, good, sizeof good);
 }
 
-static void clear(void)
-{
-    clear_lent();
-    clear_order();
-    clear_sets();
-}
-
-static int unaltered(void)
-{
-    return untouched_from(0) && order_untouched() && sets_are(UNTOUCHED_SET, UNTOUCHED_SET);
-}
-
-/* Its lent words and sets are looked at by unaltered, after many calls. */
-static void refused(int entry, const Record *r, int number, const char *what, int row)
-{
-    uint64_t outs[2] = {UNTOUCHED_OUT, ~UNTOUCHED_OUT};
-    check(call(entry, r, lent, outs) == number && outs[0] == UNTOUCHED_OUT && outs[1] == ~UNTOUCHED_OUT, what, row);
-}
-
-static void accepted(int entry, const Record *r, const char *what, int row)
-{
-    uint64_t outs[2];
-    check(call(entry, r, lent, outs) == 0, what, row);
-}
-
 /* Refusal 14, and what comes before and after it. */
 
 /* Every loose word: refused exactly if it has a bit at or above the number of constants. */
@@ -130,7 +99,7 @@ static void sizes(void)
         for (int k = 0; k <= 17; k++) {
             words[4] = (uint16_t)(k < 16 ? BIT(k) : k == 16 ? 0 : 65535);
             for (int entry = 0; entry < ENTRIES; entry++)
-                refused(entry, r, 1, "a size above its limit", 1000 * row + 10 * k + entry);
+                refused(entry, r, 1, "a size above its limit", 10000 * row + 100 * k + entry);
         }
     }
     check(unaltered(), "refused by a size", 0);
@@ -199,11 +168,11 @@ static int are_names(unsigned loose, size_t constants, const unsigned *named)
 static void judged(Record schema, Record state, size_t a, size_t b, const unsigned *named, int row)
 {
     const Record *r = ON(schema, constant[a], constant[b], state, WORDS(MOST), NUMBER(P));
-    uint16_t marks[MOST] = {0};
+    uint16_t flags[MOST] = {0};
     uint64_t out = 99;
     unsigned selected = 0;
-    check(call(SELECT, r, marks, &out) == 0 && out == 1, "one object", row);
-    for (size_t d = 0; d < MOST; d++) selected |= marks[d] ? BIT(d) : 0;
+    check(call(SELECT, r, flags, &out) == 0 && out == 1, "one object", row);
+    for (size_t d = 0; d < MOST; d++) selected |= flags[d] ? BIT(d) : 0;
     check(selected == named[a], "the object of a constant", row);
     check(call(LEGAL, r, NULL, &out) == 0 && out == 0, "legal", row);
     check(call(COUNTEREXAMPLE, r, NULL, &out) == 0, "a counterexample", row);

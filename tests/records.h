@@ -30,6 +30,7 @@ typedef struct {
 #define BACKWARD(p) {BIKUVOA_BACKWARD, p}
 #define REACHED {BIKUVOA_REACHED, 0}
 #define COMMON {BIKUVOA_COMMON, 0}
+#define MARK(k) {BIKUVOA_MARK, k}
 
 /* Words that nothing else has. */
 static uint16_t *take(size_t words)
@@ -41,12 +42,16 @@ static uint16_t *take(size_t words)
     return pool + taken - words;
 }
 
-static Record concept_of(Tokens tokens)
+static Record concept_in(uint16_t *words, Tokens tokens)
 {
-    size_t words = BIKUVOA_CONCEPT_WORDS(tokens.n);
-    bikuvoa_concept c = bikuvoa_start_concept(take(words), words);
+    bikuvoa_concept c = bikuvoa_start_concept(words, BIKUVOA_CONCEPT_WORDS(tokens.n));
     for (size_t i = 0; i < tokens.n; i++) bikuvoa_token(&c, tokens.at[i].sort, tokens.at[i].argument);
     return (Record){c.length, c.words};
+}
+
+static Record concept_of(Tokens tokens)
+{
+    return concept_in(take(BIKUVOA_CONCEPT_WORDS(tokens.n)), tokens);
 }
 
 static Record declaring(size_t classes, size_t attributes, size_t constants)

@@ -12,9 +12,10 @@
 #define UNTOUCHED 0xBEEF
 #define OWN_FRAMES 65536
 
-enum { HELD, OPEN, REFUSED, DEEP, CASES };
+enum { HELD, OPEN, REFUSED, DEEP, MARKED, CASES };
 enum {
-    CHECK_CONCEPT, CHECK_VIEW, SELECT, LEGAL, COUNTEREXAMPLE, LINKS_BY_FIRST, LINKS_BY_SECOND, DECIDE, HOLDS, CATALOGUE, ENTRIES
+    CHECK_CONCEPT, CHECK_QUERY, CHECK_VIEW, SELECT, LEGAL, COUNTEREXAMPLE, LINKS_BY_FIRST, LINKS_BY_SECOND, DECIDE, HOLDS,
+    CATALOGUE, ENTRIES
 };
 
 typedef struct {
@@ -36,11 +37,12 @@ static Answer expected[CASES][ENTRIES];
 static pthread_barrier_t barrier;
 
 /* Class 0 needs attribute 0, which goes from class 1 to class 2: each object of 0 is in 1. No two states have as many links.
- * The deepest query names two classes, any other concept one. A catalogue has the view, then the query. */
+ * The deepest query names two classes, the one with a mark none, any other concept one. Object i of case i is one of its own
+ * values, and that mark. A catalogue has the view, then the query. */
 static void make_cases(void)
 {
     static uint16_t schema_words[BIKUVOA_SCHEMA_WORDS(2)], words[CASES][2][BIKUVOA_MAX_CONCEPT_WORDS];
-    static uint16_t state_words[CASES][BIKUVOA_STATE_WORDS(3 + 2 * CASES)], views_words[CASES][BIKUVOA_MAX_CATALOGUE_WORDS];
+    static uint16_t state_words[CASES][BIKUVOA_STATE_WORDS(4 + 2 * CASES)], views_words[CASES][BIKUVOA_MAX_CATALOGUE_WORDS];
     schema = bikuvoa_start_schema(schema_words, BIKUVOA_SCHEMA_WORDS(2), 3, 1, 0);
     bikuvoa_necessary(&schema, 0, 0);
     bikuvoa_relates(&schema, 0, 1, 2);
@@ -48,7 +50,7 @@ static void make_cases(void)
         Case *c = &cases[i];
         c->query = bikuvoa_start_concept(words[i][0], BIKUVOA_MAX_CONCEPT_WORDS);
         c->view = bikuvoa_start_concept(words[i][1], BIKUVOA_MAX_CONCEPT_WORDS);
-        c->state = bikuvoa_start_state(state_words[i], BIKUVOA_STATE_WORDS(3 + 2 * CASES), 3 + i);
+        c->state = bikuvoa_start_state(state_words[i], BIKUVOA_STATE_WORDS(4 + 2 * CASES), 3 + i);
         bikuvoa_member(&c->state, 0, i);
         bikuvoa_member(&c->state, 1, i);
         bikuvoa_member(&c->state, 1, 2);
@@ -73,6 +75,14 @@ static void make_cases(void)
         bikuvoa_common(&cases[DEEP].query);
     }
     bikuvoa_class(&cases[DEEP].view, 0);
+    bikuvoa_mark(&cases[MARKED].query, 2);
+    bikuvoa_empty(&cases[MARKED].query);
+    bikuvoa_mark(&cases[MARKED].query, 2);
+    bikuvoa_forward(&cases[MARKED].query, 0);
+    bikuvoa_reached(&cases[MARKED].query);
+    bikuvoa_both(&cases[MARKED].query);
+    bikuvoa_class(&cases[MARKED].view, 0);
+    bikuvoa_choose(&cases[MARKED].state, 2, MARKED);
     for (size_t i = 0; i < CASES; i++) {
         Case *c = &cases[i];
         c->views = bikuvoa_start_views(views_words[i], BIKUVOA_MAX_CATALOGUE_WORDS);
@@ -90,6 +100,9 @@ static void call(const Case *c, int entry, Answer *a)
     if (entry == CHECK_CONCEPT)
         a->returned = bikuvoa_check_concept(schema.words, schema.length, q.words, q.length, &a->sets[0], &a->sets[1],
                                             &a->outs[0]);
+    else if (entry == CHECK_QUERY)
+        a->returned = bikuvoa_check_query(schema.words, schema.length, q.words, q.length, &a->sets[0], &a->sets[1],
+                                          &a->outs[0]);
     else if (entry == CHECK_VIEW)
         a->returned = bikuvoa_check_view(schema.words, schema.length, v.words, v.length, &a->sets[0], &a->sets[1], &a->outs[0]);
     else if (entry == SELECT)
@@ -134,6 +147,31 @@ static int orders(const Answer *a, const uint16_t *said)
            && a->outs[0] == said[4];
 }
 
+/* Whether the answers of a case are what they should be. Those entries that take no marks refuse the last. */
+static int are_known(int i)
+{
+    static const int NUMBERS[CASES] = {0, 0, BIKUVOA_BAD_TOKEN, 0, 0};
+    static const int OF_CONCEPT[CASES] = {0, 0, 0, 0, BIKUVOA_BAD_TOKEN}, OF_STATE[CASES] = {0, 0, 0, 0, BIKUVOA_BAD_FACT};
+    static const uint32_t UNNAMED[3] = {99, 99, 99};
+    static const uint32_t IN_QUERY[CASES][3] = {{1, 0, 1}, {2, 0, 1}, {2, 0, 1}, {2 + 4, 1, 2}, {0, 1, 0}};
+    static const uint32_t IN_VIEW[CASES][3] = {{2, 0, 1}, {1, 0, 1}, {99, 99, 99}, {1, 0, 1}, {1, 0, 1}};
+    static const int OF_VIEWS[CASES] = {0, 0, BIKUVOA_BAD_TOKEN, BIKUVOA_BAD_STEPS, BIKUVOA_BAD_TOKEN};
+    static const uint16_t NO_ORDER[5] = {UNTOUCHED, UNTOUCHED, UNTOUCHED, UNTOUCHED, 99};
+    static const uint16_t IN_ORDER[][5] = {{1, 3, 2, 1, 2}, {3, 2, 1, 2, 2}};
+    const Answer *a = expected[i];
+    const uint64_t links = OF_CONCEPT[i] ? 99 : i == HELD ? 0 : (uint64_t)i + 1;
+    for (int entry = LINKS_BY_FIRST; entry <= LINKS_BY_SECOND; entry++)
+        if (a[entry].returned != OF_CONCEPT[i] || a[entry].outs[0] != links) return 0;
+    return a[DECIDE].returned == NUMBERS[i] && (a[DECIDE].outs[0] == 0) == (i == HELD)
+           && a[HOLDS].returned == NUMBERS[i] && (a[HOLDS].outs[0] == 1) == (i == HELD)
+           && a[COUNTEREXAMPLE].returned == NUMBERS[i] && a[SELECT].returned == OF_CONCEPT[i]
+           && a[LEGAL].returned == OF_STATE[i]
+           && a[CHECK_CONCEPT].returned == OF_CONCEPT[i] && names(&a[CHECK_CONCEPT], OF_CONCEPT[i] ? UNNAMED : IN_QUERY[i])
+           && a[CHECK_QUERY].returned == 0 && names(&a[CHECK_QUERY], IN_QUERY[i])
+           && a[CHECK_VIEW].returned == NUMBERS[i] && names(&a[CHECK_VIEW], IN_VIEW[i])
+           && a[CATALOGUE].returned == OF_VIEWS[i] && orders(&a[CATALOGUE], OF_VIEWS[i] ? NO_ORDER : IN_ORDER[i]);
+}
+
 /* Returns its argument if an answer differs. Each thread begins at another place. */
 static void *work(void *number)
 {
@@ -152,31 +190,17 @@ static void *work(void *number)
 
 int main(void)
 {
-    static const int NUMBERS[CASES] = {0, 0, BIKUVOA_BAD_TOKEN, 0};
-    static const uint32_t IN_QUERY[CASES][3] = {{1, 0, 1}, {2, 0, 1}, {2, 0, 1}, {2 + 4, 1, 2}};
-    static const uint32_t IN_VIEW[CASES][3] = {{2, 0, 1}, {1, 0, 1}, {99, 99, 99}, {1, 0, 1}};
-    static const int OF_VIEWS[CASES] = {0, 0, BIKUVOA_BAD_TOKEN, BIKUVOA_BAD_STEPS};
-    static const uint16_t IN_ORDER[CASES][5] = {{1, 3, 2, 1, 2}, {3, 2, 1, 2, 2},
-                                                {UNTOUCHED, UNTOUCHED, UNTOUCHED, UNTOUCHED, 99},
-                                                {UNTOUCHED, UNTOUCHED, UNTOUCHED, UNTOUCHED, 99}};
     pthread_t threads[THREADS];
     int numbers[THREADS];
     pthread_attr_t attributes;
     int wrong = 0;
     make_cases();
-    for (int i = 0; i < CASES; i++)
-        for (int entry = 0; entry < ENTRIES; entry++) call(&cases[i], entry, &expected[i][entry]);
     for (int i = 0; i < CASES; i++) {
-        const Answer *decide = &expected[i][DECIDE], *holds = &expected[i][HOLDS];
-        const Answer *first = &expected[i][LINKS_BY_FIRST], *second = &expected[i][LINKS_BY_SECOND];
-        const Answer *query = &expected[i][CHECK_CONCEPT], *view = &expected[i][CHECK_VIEW];
-        uint64_t links = i == HELD ? 0 : (uint64_t)i + 1;
-        if (decide->returned != NUMBERS[i] || (decide->outs[0] == 0) != (i == HELD)) return 1;
-        if (holds->returned != NUMBERS[i] || (holds->outs[0] == 1) != (i == HELD)) return 1;
-        if (first->returned || first->outs[0] != links || second->returned || second->outs[0] != links) return 1;
-        if (query->returned || !names(query, IN_QUERY[i])) return 1;
-        if (view->returned != NUMBERS[i] || !names(view, IN_VIEW[i])) return 1;
-        if (expected[i][CATALOGUE].returned != OF_VIEWS[i] || !orders(&expected[i][CATALOGUE], IN_ORDER[i])) return 1;
+        for (int entry = 0; entry < ENTRIES; entry++) call(&cases[i], entry, &expected[i][entry]);
+        if (!are_known(i)) {
+            fprintf(stderr, "failed: the answers of case %d\n", i);
+            return 1;
+        }
     }
     if (pthread_barrier_init(&barrier, NULL, THREADS) || pthread_attr_init(&attributes)
         || pthread_attr_setstacksize(&attributes, BIKUVOA_STACK_BYTES + OWN_FRAMES)) return 1;
