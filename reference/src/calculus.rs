@@ -12,6 +12,7 @@ mod pair;
 mod schema_rules;
 mod terms;
 
+use crate::marks;
 use crate::syntax::{Concept, Schema};
 use normal_form::normalise;
 use pair::{Individual, Pair};
@@ -25,7 +26,7 @@ pub enum Verdict {
 }
 
 /// Decides whether every object of the query is in the view, in every legal
-/// state of any size.
+/// state of any size and for any objects of the query's marks.
 pub fn decide(schema: &Schema, query: &Concept, view: &Concept) -> Verdict {
     let mut calculus = Calculus::new(schema, query, view);
     calculus.complete();
@@ -46,6 +47,7 @@ impl<'a> Calculus<'a> {
     /// the same, but nothing is forced on it, so no fact is about it.
     pub(crate) fn new(schema: &'a Schema, query: &Concept, view: &Concept) -> Self {
         let mut terms = Terms::default();
+        let marks = marks::used(query);
         let query = normalise(&mut terms, query);
         let view = normalise(&mut terms, view);
         let individual = |constant| {
@@ -56,7 +58,7 @@ impl<'a> Calculus<'a> {
             }
         };
         let constants = (0..schema.constants).map(individual).collect();
-        let pair = Pair::new(query, view, constants);
+        let pair = Pair::new(query, view, constants, &marks);
         Calculus {
             schema,
             terms,

@@ -4,13 +4,15 @@
 
 use crate::calculus::{self, Verdict};
 use crate::catalogue::{held, order};
+use crate::marks;
 use crate::names::{self, Named};
-use crate::records::{self, QUERY_STEPS, VIEW_STEPS};
+use crate::records::{self, Place};
 use crate::semantics;
 use crate::syntax::{Concept, Schema, State};
+use std::collections::BTreeSet;
 
 /// The least number of lent words for a decision.
-pub const DECIDE_WORDS: usize = 30_762;
+pub const DECIDE_WORDS: usize = 30_770;
 
 /// The least number of lent words for the rows of a catalogue, and for its order.
 pub const CATALOGUE_WORDS: usize = 16;
@@ -29,21 +31,28 @@ pub enum Counterexample {
     Yes(u16),
 }
 
-/// Checks a concept by itself, as a query, and tells what it names.
+/// Checks a concept by itself, as one for a selection, and tells what it names.
 pub fn check_concept(schema: &[u16], concept: &[u16]) -> Result<Named, u16> {
-    let schema = records::schema(schema)?;
-    let concept = records::concept(concept, &schema, QUERY_STEPS)?;
-    Ok(names::named(&concept))
+    check(schema, concept, Place::Concept)
+}
+
+/// The same of a query, which may have marks.
+pub fn check_query(schema: &[u16], query: &[u16]) -> Result<Named, u16> {
+    check(schema, query, Place::Query)
 }
 
 /// The same of a view.
 pub fn check_view(schema: &[u16], view: &[u16]) -> Result<Named, u16> {
-    let schema = records::schema(schema)?;
-    let view = records::concept(view, &schema, VIEW_STEPS)?;
-    Ok(names::named(&view))
+    check(schema, view, Place::View)
 }
 
-/// Marks the selected objects in the lent words and counts them.
+fn check(schema: &[u16], concept: &[u16], place: Place) -> Result<Named, u16> {
+    let schema = records::schema(schema)?;
+    let concept = records::concept(concept, &schema, place)?;
+    Ok(names::named(&concept))
+}
+
+/// Tells in the lent words which objects are selected, and counts them.
 pub fn select(
     schema: &[u16],
     concept: &[u16],
@@ -51,22 +60,22 @@ pub fn select(
     lent: &mut [u16],
 ) -> Result<u16, u16> {
     let schema = records::schema(schema)?;
-    let concept = records::concept(concept, &schema, QUERY_STEPS)?;
-    let state = records::state(state, &schema)?;
+    let concept = records::concept(concept, &schema, Place::Concept)?;
+    let state = unmarked(state, &schema)?;
     if lent.len() < state.objects {
         return Err(11);
     }
-    let marks = semantics::selected(&state, &concept);
-    for (word, &mark) in lent.iter_mut().zip(&marks) {
-        *word = u16::from(mark);
+    let selected = semantics::selected(&state, &concept);
+    for (word, &inside) in lent.iter_mut().zip(&selected) {
+        *word = u16::from(inside);
     }
-    Ok(marks.iter().map(|&mark| u16::from(mark)).sum())
+    Ok(selected.iter().map(|&inside| u16::from(inside)).sum())
 }
 
 /// Tells whether every axiom of the schema holds in the state.
 pub fn legal(schema: &[u16], state: &[u16]) -> Result<Legality, u16> {
     let schema = records::schema(schema)?;
-    let state = records::state(state, &schema)?;
+    let state = unmarked(state, &schema)?;
     Ok(match semantics::first_broken(&schema, &state) {
         None => Legality::Legal,
         Some(place) => Legality::Broken(word(place)),
@@ -74,7 +83,8 @@ pub fn legal(schema: &[u16], state: &[u16]) -> Result<Legality, u16> {
 }
 
 /// Tells whether the state is legal and has an object in the query and
-/// outside the view.
+/// outside the view. The marks that the query uses are the objects that the state
+/// chooses for them.
 pub fn counterexample(
     schema: &[u16],
     query: &[u16],
@@ -82,7 +92,7 @@ pub fn counterexample(
     state: &[u16],
 ) -> Result<Counterexample, u16> {
     let (schema, query, view) = triple(schema, query, view)?;
-    let state = records::state(state, &schema)?;
+    let state = records::state(state, &schema, &marks::used(&query))?;
     Ok(
         match semantics::counterexample(&schema, &query, &view, &state) {
             None => Counterexample::No,
@@ -147,7 +157,7 @@ pub fn catalogue(
     let views = records::catalogue(views)?;
     let views = views
         .into_iter()
-        .map(|view| records::concept(view, &schema, VIEW_STEPS))
+        .map(|view| records::concept(view, &schema, Place::View))
         .collect::<Result<Vec<Concept>, u16>>()?;
     if rows.len().min(order_words.len()) < CATALOGUE_WORDS {
         return Err(11);
@@ -167,9 +177,14 @@ pub fn catalogue(
 
 fn triple(schema: &[u16], query: &[u16], view: &[u16]) -> Result<(Schema, Concept, Concept), u16> {
     let schema = records::schema(schema)?;
-    let query = records::concept(query, &schema, QUERY_STEPS)?;
-    let view = records::concept(view, &schema, VIEW_STEPS)?;
+    let query = records::concept(query, &schema, Place::Query)?;
+    let view = records::concept(view, &schema, Place::View)?;
     Ok((schema, query, view))
+}
+
+/// A state where no query uses a mark.
+fn unmarked(state: &[u16], schema: &Schema) -> Result<State, u16> {
+    records::state(state, schema, &BTreeSet::new())
 }
 
 /// What a count of links is about; the attribute is checked last.
@@ -180,8 +195,8 @@ fn counted(
     attribute: u16,
 ) -> Result<(Concept, State, usize), u16> {
     let schema = records::schema(schema)?;
-    let concept = records::concept(concept, &schema, QUERY_STEPS)?;
-    let state = records::state(state, &schema)?;
+    let concept = records::concept(concept, &schema, Place::Concept)?;
+    let state = unmarked(state, &schema)?;
     let attribute = usize::from(attribute);
     if attribute >= schema.attributes {
         return Err(12);

@@ -9,6 +9,7 @@
 pub mod calculus;
 pub mod catalogue;
 pub mod entries;
+pub mod marks;
 pub mod names;
 pub mod records;
 pub mod semantics;

@@ -18,7 +18,7 @@ pub fn named(concept: &Concept) -> Named {
             classes: BTreeSet::from([*class]),
             ..Named::default()
         },
-        Concept::Everything | Concept::Constant(_) => Named::default(),
+        Concept::Everything | Concept::Constant(_) | Concept::Mark(_) => Named::default(),
         Concept::Both(left, right) => union(named(left), named(right)),
         Concept::Reached(path) => of_path(path),
         Concept::Common(left, right) => union(of_path(left), of_path(right)),

@@ -6,7 +6,7 @@ mod schema;
 mod state;
 
 pub use catalogue::catalogue;
-pub use concept::{concept, QUERY_STEPS, VIEW_STEPS};
+pub use concept::{concept, Place};
 pub use schema::schema;
 pub use state::state;
 

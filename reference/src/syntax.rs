@@ -1,6 +1,6 @@
 //! Schemas, concepts, paths and states once their records are decoded.
 
-use std::collections::BTreeSet;
+use std::collections::{BTreeMap, BTreeSet};
 
 /// The declared alphabet and its axioms, in record order.
 #[derive(Clone, Debug, PartialEq, Eq)]
@@ -46,6 +46,8 @@ pub enum Concept {
     Class(usize),
     Everything,
     Constant(usize),
+    /// The object of a mark. Only a query has marks.
+    Mark(usize),
     Both(Box<Concept>, Box<Concept>),
     Reached(Path),
     Common(Path, Path),
@@ -96,12 +98,15 @@ impl Role {
     }
 }
 
-/// A finite state over the objects below `objects`; each vector is indexed by
-/// the declared number of a class, attribute or constant.
+/// A finite state over the objects below `objects`, with a choice of objects for
+/// marks; each vector is indexed by the declared number of a class, attribute or
+/// constant.
 #[derive(Clone, Debug, PartialEq, Eq)]
 pub struct State {
     pub objects: usize,
     pub classes: Vec<BTreeSet<usize>>,
     pub attributes: Vec<BTreeSet<(usize, usize)>>,
     pub constants: Vec<usize>,
+    /// The object of each mark that the query at hand uses.
+    pub marks: BTreeMap<usize, usize>,
 }

@@ -20,6 +20,9 @@ impl Calculus<'_> {
             constants: (0..self.schema.constants)
                 .map(|constant| numbers[&self.pair.constant(constant)])
                 .collect(),
+            marks: (self.pair.marks().iter())
+                .map(|(&mark, s)| (mark, numbers[s]))
+                .collect(),
         };
         for (concept, s) in self.pair.members() {
             if let ConceptTerm::Class(class) = self.terms.concept(concept) {
@@ -36,7 +39,7 @@ impl Calculus<'_> {
     }
 
     /// All constants, whether or not a fact names them, and all individuals of
-    /// the facts.
+    /// the facts, among them those of the marks.
     fn number_individuals(&self) -> BTreeMap<Individual, usize> {
         let mut individuals = BTreeSet::from([self.pair.start()]);
         individuals.extend((0..self.schema.constants).map(|constant| self.pair.constant(constant)));

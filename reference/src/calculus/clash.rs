@@ -13,6 +13,7 @@ impl Calculus<'_> {
             .into_iter()
             .any(|(concept, s)| match self.terms.concept(concept) {
                 ConceptTerm::Constant(constant) => s.differs(self.pair.constant(constant)),
+                ConceptTerm::Mark(mark) => s.differs(self.pair.mark(mark)),
                 ConceptTerm::Class(class) => self.overfull(s, class),
                 _ => false,
             })

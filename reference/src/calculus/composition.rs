@@ -21,10 +21,10 @@ impl Calculus<'_> {
     }
 
     /// C1 to C4: whether the facts at hand make up the concept. A class is never
-    /// made up.
+    /// made up, and no goal has a mark, since no view has.
     fn composes(&self, s: Individual, concept: ConceptId) -> bool {
         match self.terms.concept(concept) {
-            ConceptTerm::Class(_) => false,
+            ConceptTerm::Class(_) | ConceptTerm::Mark(_) => false,
             ConceptTerm::Top => true,
             ConceptTerm::Constant(constant) => s == self.pair.constant(constant),
             ConceptTerm::Both(left, right) => {

@@ -7,7 +7,7 @@ use super::Calculus;
 
 impl Calculus<'_> {
     pub(super) fn decompose(&mut self) -> bool {
-        let mut altered = self.merge_constants();
+        let mut altered = self.merge_named();
         for (concept, s) in self.pair.members() {
             altered |= match self.terms.concept(concept) {
                 // D1
@@ -25,18 +25,22 @@ impl Calculus<'_> {
         altered
     }
 
-    /// D3: an individual that is in a constant and the one that stands for the
-    /// constant become one.
-    fn merge_constants(&mut self) -> bool {
+    /// D3: an individual that is in a constant or in a mark and the one that stands
+    /// for the constant or the mark become one.
+    fn merge_named(&mut self) -> bool {
         let mut altered = false;
         for (concept, s) in self.pair.members() {
-            let ConceptTerm::Constant(constant) = self.terms.concept(concept) else {
-                continue;
-            };
+            let term = self.terms.concept(concept);
             // An earlier merge may have replaced this individual in all facts;
             // then there is nothing left of it to merge.
             if self.pair.is_member(s, concept) {
-                altered |= self.pair.merge(s, self.pair.constant(constant));
+                altered |= match term {
+                    ConceptTerm::Constant(constant) => {
+                        self.pair.merge(s, self.pair.constant(constant))
+                    }
+                    ConceptTerm::Mark(mark) => self.pair.merge(s, self.pair.mark(mark)),
+                    _ => false,
+                };
             }
         }
         altered

@@ -11,6 +11,7 @@ pub(crate) fn normalise(terms: &mut Terms, concept: &Concept) -> ConceptId {
         Concept::Class(class) => ConceptTerm::Class(*class),
         Concept::Everything => ConceptTerm::Top,
         Concept::Constant(constant) => ConceptTerm::Constant(*constant),
+        Concept::Mark(mark) => ConceptTerm::Mark(*mark),
         Concept::Both(left, right) => {
             ConceptTerm::Both(normalise(terms, left), normalise(terms, right))
         }

@@ -3,7 +3,7 @@
 
 use super::terms::{ConceptId, PathId};
 use crate::syntax::Role;
-use std::collections::BTreeSet;
+use std::collections::{BTreeMap, BTreeSet};
 
 /// Constants that are not loose sort first and variables last, so that a merge of
 /// the greatest of several individuals into the least replaces a variable or a
@@ -39,14 +39,22 @@ pub(crate) struct Pair {
     start: Individual,
     /// For each constant the individual that now stands for it.
     constants: Vec<Individual>,
+    /// For each mark that the query uses the individual that now stands for it.
+    marks: BTreeMap<usize, Individual>,
     variables: usize,
 }
 
 impl Pair {
-    /// One variable that is in the query, with the goal that it is in the view, and
-    /// these individuals for the constants.
-    pub(crate) fn new(query: ConceptId, view: ConceptId, constants: Vec<Individual>) -> Self {
+    /// One variable that is in the query, with the goal that it is in the view, a
+    /// variable for each of the marks, and these individuals for the constants.
+    pub(crate) fn new(
+        query: ConceptId,
+        view: ConceptId,
+        constants: Vec<Individual>,
+        marks: &BTreeSet<usize>,
+    ) -> Self {
         let start = Individual::Variable(0);
+        let variables = (1..).map(Individual::Variable);
         Pair {
             members: BTreeSet::from([(query, start)]),
             edges: BTreeSet::new(),
@@ -54,7 +62,8 @@ impl Pair {
             goals: BTreeSet::from([(view, start)]),
             start,
             constants,
-            variables: 1,
+            marks: marks.iter().copied().zip(variables).collect(),
+            variables: 1 + marks.len(),
         }
     }
 
@@ -66,6 +75,16 @@ impl Pair {
     /// The individual that now stands for the constant.
     pub(crate) fn constant(&self, number: usize) -> Individual {
         self.constants[number]
+    }
+
+    /// The individual that now stands for the mark, which the query uses.
+    pub(crate) fn mark(&self, number: usize) -> Individual {
+        self.marks[&number]
+    }
+
+    #[cfg(test)]
+    pub(crate) fn marks(&self) -> &BTreeMap<usize, Individual> {
+        &self.marks
     }
 
     pub(crate) fn fresh(&mut self) -> Individual {
@@ -165,5 +184,10 @@ impl Pair {
         self.goals = self.goals.iter().map(|&(c, s)| (c, swap(s))).collect();
         self.start = swap(self.start);
         self.constants = self.constants.iter().map(|&s| swap(s)).collect();
+        self.marks = self
+            .marks
+            .iter()
+            .map(|(&mark, &s)| (mark, swap(s)))
+            .collect();
     }
 }

@@ -16,6 +16,7 @@ pub(crate) enum ConceptTerm {
     Class(usize),
     Top,
     Constant(usize),
+    Mark(usize),
     Both(ConceptId, ConceptId),
     Exists(PathId),
     Agrees(PathId),

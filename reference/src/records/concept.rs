@@ -4,18 +4,41 @@
 use super::entries;
 use crate::syntax::{Concept, Direction, Path, Role, Schema, Step};
 
-/// The step limit of a query, and of a concept in its place.
-pub const QUERY_STEPS: u16 = 16;
-/// The step limit of a view.
-pub const VIEW_STEPS: u16 = 6;
-
 const TOKENS: u16 = 64;
+
+/// Where a concept stands, which says what it may have.
+#[derive(Clone, Copy, Debug, PartialEq, Eq)]
+pub enum Place {
+    /// By itself, for a selection or a count of links.
+    Concept,
+    /// Before a view.
+    Query,
+    View,
+}
+
+impl Place {
+    fn step_limit(self) -> u16 {
+        match self {
+            Place::Concept | Place::Query => 16,
+            Place::View => 6,
+        }
+    }
+
+    /// How many marks there are.
+    fn marks(self) -> usize {
+        match self {
+            Place::Query => 4,
+            Place::Concept | Place::View => 0,
+        }
+    }
+}
 
 #[derive(Clone, Copy)]
 enum Token {
     Class(usize),
     Everything,
     Constant(usize),
+    Mark(usize),
     Both,
     Empty,
     Step(Role),
@@ -29,7 +52,7 @@ enum Item {
 }
 
 /// Decodes a concept record or gives the number of its refusal.
-pub fn concept(words: &[u16], schema: &Schema, step_limit: u16) -> Result<Concept, u16> {
+pub fn concept(words: &[u16], schema: &Schema, place: Place) -> Result<Concept, u16> {
     let &[count, steps, ..] = words else {
         return Err(3);
     };
@@ -39,7 +62,7 @@ pub fn concept(words: &[u16], schema: &Schema, step_limit: u16) -> Result<Concep
     let pairs = entries(words, 2, count).ok_or(3u16)?;
     let tokens = pairs
         .iter()
-        .map(|&(sort, argument)| token(schema, sort, argument))
+        .map(|&(sort, argument)| token(schema, place, sort, argument))
         .collect::<Option<Vec<Token>>>()
         .ok_or(4u16)?;
     let concept = build(&tokens).ok_or(5u16)?;
@@ -47,13 +70,13 @@ pub fn concept(words: &[u16], schema: &Schema, step_limit: u16) -> Result<Concep
         .iter()
         .filter(|token| matches!(token, Token::Step(_)))
         .count();
-    if counted != usize::from(steps) || steps > step_limit {
+    if counted != usize::from(steps) || steps > place.step_limit() {
         return Err(6);
     }
     Ok(concept)
 }
 
-fn token(schema: &Schema, sort: u16, argument: u16) -> Option<Token> {
+fn token(schema: &Schema, place: Place, sort: u16, argument: u16) -> Option<Token> {
     let number = usize::from(argument);
     let step = |direction| Role {
         attribute: number,
@@ -69,6 +92,7 @@ fn token(schema: &Schema, sort: u16, argument: u16) -> Option<Token> {
         7 => (Token::Step(step(Direction::Backward)), schema.attributes),
         8 => (Token::Reached, 1),
         9 => (Token::Common, 1),
+        10 => (Token::Mark(number), place.marks()),
         _ => return None,
     };
     // A token without an argument allows 0 alone, hence the count of 1 above.
@@ -91,6 +115,7 @@ fn put(pile: &mut Vec<Item>, token: Token) -> Option<Item> {
         Token::Class(number) => Item::Concept(Concept::Class(number)),
         Token::Everything => Item::Concept(Concept::Everything),
         Token::Constant(number) => Item::Concept(Concept::Constant(number)),
+        Token::Mark(number) => Item::Concept(Concept::Mark(number)),
         Token::Both => {
             let right = take_concept(pile)?;
             let left = take_concept(pile)?;

@@ -25,7 +25,7 @@ pub fn schema(words: &[u16]) -> Result<Schema, u16> {
         classes: usize::from(classes),
         attributes: usize::from(attributes),
         constants,
-        loose: marked(loose, constants).ok_or(14u16)?,
+        loose: set_bits(loose, constants).ok_or(14u16)?,
         axioms: Vec::new(),
     };
     for (left, right) in pairs {
@@ -36,7 +36,7 @@ pub fn schema(words: &[u16]) -> Result<Schema, u16> {
 }
 
 /// The constants whose bits are set, if all of them are declared.
-fn marked(word: u16, constants: usize) -> Option<BTreeSet<usize>> {
+fn set_bits(word: u16, constants: usize) -> Option<BTreeSet<usize>> {
     let bits = (0..16).filter(|bit| word >> bit & 1 == 1);
     bits.map(|bit| declared(bit, constants)).collect()
 }

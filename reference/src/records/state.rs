@@ -3,10 +3,10 @@
 
 use super::entries;
 use crate::syntax::{Schema, State};
-use std::collections::BTreeSet;
+use std::collections::{BTreeMap, BTreeSet};
 
 const OBJECTS: u16 = 480;
-const FACTS: u16 = 15_380;
+const FACTS: u16 = 15_384;
 
 enum Fact {
     Member {
@@ -22,10 +22,15 @@ enum Fact {
         constant: usize,
         object: usize,
     },
+    Chosen {
+        mark: usize,
+        object: usize,
+    },
 }
 
-/// Decodes a state record or gives the number of its refusal.
-pub fn state(words: &[u16], schema: &Schema) -> Result<State, u16> {
+/// Decodes a state record for a query that uses these marks, or gives the number
+/// of its refusal.
+pub fn state(words: &[u16], schema: &Schema, marks: &BTreeSet<usize>) -> Result<State, u16> {
     let &[objects, count, ..] = words else {
         return Err(7);
     };
@@ -36,17 +41,24 @@ pub fn state(words: &[u16], schema: &Schema) -> Result<State, u16> {
     let objects = usize::from(objects);
     let facts = pairs
         .iter()
-        .map(|&(left, right)| fact(schema, objects, left, right))
+        .map(|&(left, right)| fact(schema, marks, objects, left, right))
         .collect::<Option<Vec<Fact>>>()
         .ok_or(8u16)?;
     if pairs.windows(2).any(|two| two[0] >= two[1]) {
         return Err(9);
     }
     let constants = constants(&facts, schema).ok_or(10u16)?;
-    Ok(gather(schema, objects, &facts, constants))
+    let marks = choices(&facts, marks).ok_or(10u16)?;
+    Ok(gather(schema, objects, &facts, constants, marks))
 }
 
-fn fact(schema: &Schema, objects: usize, left: u16, right: u16) -> Option<Fact> {
+fn fact(
+    schema: &Schema,
+    marks: &BTreeSet<usize>,
+    objects: usize,
+    left: u16,
+    right: u16,
+) -> Option<Fact> {
     let (kind, object) = (usize::from(left / 512), usize::from(left % 512));
     let second = usize::from(right);
     if object >= objects {
@@ -64,6 +76,10 @@ fn fact(schema: &Schema, objects: usize, left: u16, right: u16) -> Option<Fact> 
         }),
         32..=35 => (kind - 32 < schema.constants && right == 0).then_some(Fact::Named {
             constant: kind - 32,
+            object,
+        }),
+        36..=39 => (marks.contains(&(kind - 36)) && right == 0).then_some(Fact::Chosen {
+            mark: kind - 36,
             object,
         }),
         _ => None,
@@ -86,12 +102,32 @@ fn constants(facts: &[Fact], schema: &Schema) -> Option<Vec<usize>> {
     named.into_iter().collect()
 }
 
-fn gather(schema: &Schema, objects: usize, facts: &[Fact], constants: Vec<usize>) -> State {
+/// The object of each of the marks, if each has exactly one. They may share it.
+fn choices(facts: &[Fact], marks: &BTreeSet<usize>) -> Option<BTreeMap<usize, usize>> {
+    let mut chosen = BTreeMap::new();
+    for fact in facts {
+        if let Fact::Chosen { mark, object } = *fact {
+            if chosen.insert(mark, object).is_some() {
+                return None;
+            }
+        }
+    }
+    (chosen.len() == marks.len()).then_some(chosen)
+}
+
+fn gather(
+    schema: &Schema,
+    objects: usize,
+    facts: &[Fact],
+    constants: Vec<usize>,
+    marks: BTreeMap<usize, usize>,
+) -> State {
     let mut state = State {
         objects,
         classes: vec![BTreeSet::new(); schema.classes],
         attributes: vec![BTreeSet::new(); schema.attributes],
         constants,
+        marks,
     };
     for fact in facts {
         match *fact {
@@ -105,7 +141,7 @@ fn gather(schema: &Schema, objects: usize, facts: &[Fact], constants: Vec<usize>
             } => {
                 state.attributes[attribute].insert((first, second));
             }
-            Fact::Named { .. } => {}
+            Fact::Named { .. } | Fact::Chosen { .. } => {}
         }
     }
     state

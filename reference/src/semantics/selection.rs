@@ -18,6 +18,9 @@ pub fn selected(state: &State, concept: &Concept) -> Vec<bool> {
         Concept::Constant(constant) => objects
             .map(|object| state.constants[*constant] == object)
             .collect(),
+        Concept::Mark(mark) => objects
+            .map(|object| state.marks.get(mark) == Some(&object))
+            .collect(),
         Concept::Both(left, right) => intersection(&selected(state, left), &selected(state, right)),
         Concept::Reached(path) => relation(state, path)
             .iter()

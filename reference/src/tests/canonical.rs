@@ -3,7 +3,10 @@
 
 use super::prng::Prng;
 use super::random::{self, Alphabet};
+use super::write;
 use crate::calculus::{Calculus, Verdict};
+use crate::entries::{counterexample, Counterexample};
+use crate::marks::used;
 use crate::semantics::{first_broken, selected, separating};
 use crate::syntax::{Concept, Schema, State};
 use std::collections::BTreeSet;
@@ -24,6 +27,7 @@ fn alphabet(prng: &mut Prng) -> Alphabet {
         classes: 1 + prng.below(if small { 4 } else { 24 }),
         attributes: 1 + prng.below(if small { 2 } else { 8 }),
         constants: prng.below(5),
+        marks: prng.below(5),
     }
 }
 
@@ -32,7 +36,7 @@ fn run(prng: &mut Prng, alphabet: Alphabet, schema: &Schema) -> Run {
     let view = if prng.chance(30) {
         random::weakened(prng, alphabet, &query, 6)
     } else {
-        random::concept(prng, alphabet, 6)
+        random::concept(prng, alphabet.unmarked(), 6)
     };
     let mut calculus = Calculus::new(schema, &query, &view);
     calculus.complete();
@@ -43,6 +47,8 @@ fn run(prng: &mut Prng, alphabet: Alphabet, schema: &Schema) -> Run {
         assert_eq!(first_broken(schema, &state), None, "{schema:?}\n{query:?}");
         assert!(selected(&state, &query)[start], "{schema:?}\n{query:?}");
         assert!(!selected(&state, &view)[start], "{schema:?}\n{view:?}");
+        assert!(state.marks.keys().eq(&used(&query)), "{query:?}");
+        assert_passes(schema, &query, &view, &state);
     }
     Run {
         query,
@@ -52,16 +58,50 @@ fn run(prng: &mut Prng, alphabet: Alphabet, schema: &Schema) -> Run {
     }
 }
 
-/// Whether two constants name the same object.
-fn shares(state: &State) -> bool {
-    let objects: BTreeSet<usize> = state.constants.iter().copied().collect();
-    objects.len() < state.constants.len()
+/// As a record the state is accepted, and is found to be a counterexample.
+fn assert_passes(schema: &Schema, query: &Concept, view: &Concept, state: &State) {
+    let lowest = separating(query, view, state).expect("a separating object");
+    let (query, view) = (write::concept(query), write::concept(view));
+    let state = write::state(state);
+    let found = counterexample(&write::schema(schema), &query, &view, &state);
+    assert_eq!(found, Ok(Counterexample::Yes(lowest as u16)));
+}
+
+/// Whether one object stands there twice.
+fn repeats<'a>(mut objects: impl Iterator<Item = &'a usize>) -> bool {
+    let mut met = BTreeSet::new();
+    objects.any(|object| !met.insert(object))
+}
+
+/// The state with any objects for the marks that the query uses, by preference
+/// those that are named already.
+fn chosen(prng: &mut Prng, query: &Concept, state: &State) -> State {
+    let named: Vec<usize> = state
+        .constants
+        .iter()
+        .chain(state.marks.values())
+        .copied()
+        .collect();
+    let mut object = || {
+        if named.is_empty() || prng.chance(40) {
+            prng.below(state.objects)
+        } else {
+            named[prng.below(named.len())]
+        }
+    };
+    State {
+        marks: used(query)
+            .into_iter()
+            .map(|mark| (mark, object()))
+            .collect(),
+        ..state.clone()
+    }
 }
 
 #[test]
 fn canonical_states_bear_the_verdicts_out() {
     let mut prng = Prng::new(21);
-    let (mut held, mut open, mut merging) = (0, 0, 0);
+    let (mut held, mut open, mut merging, mut meeting) = (0, 0, 0, 0);
     for _ in 0..150 {
         let alphabet = alphabet(&mut prng);
         let axioms = if prng.chance(50) { 12 } else { 97 };
@@ -74,21 +114,24 @@ fn canonical_states_bear_the_verdicts_out() {
             .collect();
         for run in runs.iter().filter(|run| run.verdict == Verdict::Open) {
             open += 1;
-            merging += usize::from(shares(&run.state));
+            merging += usize::from(repeats(run.state.constants.iter()));
+            meeting += usize::from(repeats(run.state.marks.values()));
         }
         for run in runs.iter().filter(|run| run.verdict == Verdict::Held) {
             held += 1;
             for state in &legal {
                 let Run { query, view, .. } = run;
-                let separated = separating(query, view, state);
+                let state = chosen(&mut prng, query, state);
+                let separated = separating(query, view, &state);
                 assert_eq!(separated, None, "{schema:?}\n{query:?}\n{view:?}");
             }
         }
     }
-    println!("held {held}, open {open}, merging {merging}");
+    println!("held {held}, open {open}, merging {merging}, meeting {meeting}");
     assert!(held >= 200, "{held} held");
     assert!(open >= 200, "{open} open");
     assert!(merging >= 50, "{merging} merging");
+    assert!(meeting >= 50, "{meeting} meeting");
 }
 
 #[test]

@@ -138,10 +138,21 @@ fn a_view_has_at_most_6_steps() {
     assert_eq!((stepping(6), stepping(7)), (0, 6));
 }
 
+#[test]
+fn a_view_has_no_marks() {
+    for mark in 0..5 {
+        let marked = tokens_record(&[(10, mark)]);
+        assert_eq!(refusal(&catalogue_record(&[&marked])), 4);
+        let views = [EVERYTHING.to_vec(), marked];
+        assert_eq!(refusal(&catalogue_record(&views)), 4);
+    }
+}
+
 const ALPHABET: Alphabet = Alphabet {
     classes: 2,
     attributes: 1,
     constants: 1,
+    marks: 0,
 };
 
 /// Views that are often held by each other: some ask for less than others.

@@ -34,16 +34,16 @@ fn select_needs_a_word_for_each_object() {
 fn decide_needs_room_for_the_largest_state() {
     let held = |words| decide(&schema(), &CLASS, &EVERYTHING, words);
     let open = |words| decide(&schema(), &EVERYTHING, &CLASS, words);
-    assert_eq!(held(30_762), Ok(Verdict::Held));
+    assert_eq!(held(30_770), Ok(Verdict::Held));
     assert_eq!(held(40_000), Ok(Verdict::Held));
-    assert_eq!(held(30_761), Err(11));
-    assert_eq!(open(30_762), Ok(Verdict::Open));
-    assert_eq!(open(30_761), Err(11));
+    assert_eq!(held(30_769), Err(11));
+    assert_eq!(open(30_770), Ok(Verdict::Open));
+    assert_eq!(open(30_769), Err(11));
     assert_eq!(open(0), Err(11));
 }
 
 #[test]
-fn a_refused_selection_marks_nothing() {
+fn a_refused_selection_writes_nothing() {
     let mut lent = [9; 3];
     assert_eq!(select(&[], &EVERYTHING, &[3, 0], &mut lent), Err(1));
     assert_eq!(select(&schema(), &[], &[3, 0], &mut lent), Err(3));

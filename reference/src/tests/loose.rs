@@ -1,53 +1,16 @@
 //! Verdicts with loose constants, put as records: constants merge where they must
 //! be one object, and only two that are not loose clash.
 
-use super::build::{both, class, forward, reached, schema};
+use super::build::{both, class, forward};
+use super::declared::{all, constant, declared, to, verdict, A, B, P, Q, SINGLE};
 use super::write::{self, catalogue_record};
 use crate::calculus::Verdict::{self, Held, Open};
-use crate::entries::{catalogue, holds};
-use crate::syntax::{Axiom, Concept, Role, Schema};
-
-const A: usize = 0;
-const B: usize = 1;
-const P: usize = 0;
-const Q: usize = 1;
-
-/// An object of A has at most one value of P.
-const SINGLE: Axiom = Axiom::Single {
-    class: A,
-    attribute: P,
-};
-
-/// Two classes, two attributes, and four constants, of which these are loose.
-fn declared(loose: &[usize], axioms: &[Axiom]) -> Schema {
-    Schema {
-        loose: loose.iter().copied().collect(),
-        ..schema(2, 2, 4, axioms)
-    }
-}
-
-fn verdict(schema: &Schema, query: &Concept, view: &Concept) -> Verdict {
-    let (query, view) = (write::concept(query), write::concept(view));
-    holds(&write::schema(schema), &query, &view).expect("an accepted triple")
-}
+use crate::entries::catalogue;
+use crate::syntax::Concept;
 
 /// The verdict without axioms.
 fn under(loose: &[usize], query: &Concept, view: &Concept) -> Verdict {
     verdict(&declared(loose, &[]), query, view)
-}
-
-fn constant(number: usize) -> Concept {
-    Concept::Constant(number)
-}
-
-fn to(role: Role, landing: Concept) -> Concept {
-    reached(&[(role, landing)])
-}
-
-/// What is in all of these.
-fn all(concepts: &[Concept]) -> Concept {
-    let each = concepts.iter().cloned();
-    each.reduce(both).expect("a concept")
 }
 
 /// Every choice from the four constants.

@@ -1,14 +1,16 @@
-//! Tests of the crate, by subject. `prng`, `random`, `build` and `write` serve
-//! the others.
+//! Tests of the crate, by subject. `prng`, `random`, `build`, `write` and
+//! `declared` serve the others.
 
 mod brute_force;
 mod build;
 mod canonical;
 mod catalogue;
 mod concept_refusals;
+mod declared;
 mod lent_words;
 mod links;
 mod loose;
+mod marks;
 mod names;
 mod order_of_checks;
 mod patient;

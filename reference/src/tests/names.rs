@@ -3,7 +3,7 @@
 use super::prng::Prng;
 use super::random::{self, Alphabet};
 use super::write::{self, axioms_record, tokens_record};
-use crate::entries::{check_concept, check_view};
+use crate::entries::{check_concept, check_query, check_view};
 use crate::names::{named, Named};
 use std::collections::BTreeSet;
 
@@ -66,8 +66,22 @@ fn by_hand() {
     for (tokens, classes, attributes) in rows {
         let expected = Ok(sets(classes, attributes));
         let words = tokens_record(tokens);
-        assert_eq!(check_concept(&schema(), &words), expected, "{tokens:?}");
-        assert_eq!(check_view(&schema(), &words), expected, "{tokens:?}");
+        for check in [check_concept, check_query, check_view] {
+            assert_eq!(check(&schema(), &words), expected, "{tokens:?}");
+        }
+    }
+}
+
+/// As many marks as classes, none of which is named.
+#[test]
+fn marks_are_no_names() {
+    for mark in 0..3 {
+        let words = tokens_record(&[(10, mark)]);
+        assert_eq!(check_query(&schema(), &words), Ok(sets(&[], &[])));
+        let tokens = [(1, BOAT), (5, 0), (10, mark), (6, LENDS), (8, 0), (4, 0)];
+        let words = tokens_record(&tokens);
+        let named = check_query(&schema(), &words);
+        assert_eq!(named, Ok(sets(&[BOAT], &[LENDS])));
     }
 }
 
@@ -80,7 +94,8 @@ fn in_every_part() {
     tokens.extend([(6, LENDS), (5, 0), (1, BOAT), (6, LENDS), (9, 0), (4, 0)]);
     let all = sets(&[STRAP, PERSON, BOAT], &[WEARS, LENDS]);
     let words = tokens_record(&tokens);
-    assert_eq!(check_concept(&schema(), &words), Ok(all));
+    assert_eq!(check_concept(&schema(), &words), Ok(all.clone()));
+    assert_eq!(check_query(&schema(), &words), Ok(all));
 }
 
 #[test]
@@ -99,6 +114,7 @@ fn a_query_may_have_16_steps_and_a_view_6() {
             }
         };
         assert_eq!(check_concept(&schema(), &words), within(16));
+        assert_eq!(check_query(&schema(), &words), within(16));
         assert_eq!(check_view(&schema(), &words), within(6));
     }
 }
@@ -107,6 +123,7 @@ const ALPHABET: Alphabet = Alphabet {
     classes: 24,
     attributes: 8,
     constants: 4,
+    marks: 4,
 };
 
 /// The arguments of the tokens of these sorts.

@@ -2,8 +2,8 @@
 
 use super::write::{axioms_record, catalogue_record, loose_record, record};
 use crate::calculus::Verdict;
-use crate::entries::{catalogue, check_concept, check_view, counterexample, decide, holds, legal};
-use crate::entries::{links_by_first, links_by_second, select, Counterexample};
+use crate::entries::{catalogue, check_concept, check_query, check_view, counterexample, decide};
+use crate::entries::{holds, legal, links_by_first, links_by_second, select, Counterexample};
 
 const CLASS: [u16; 4] = [1, 0, 1, 0];
 const EVERYTHING: [u16; 4] = [1, 0, 2, 0];
@@ -34,7 +34,7 @@ fn state() -> Vec<u16> {
 
 #[test]
 fn the_schema_comes_first() {
-    for check in [check_concept, check_view] {
+    for check in [check_concept, check_query, check_view] {
         assert_eq!(check(&[], &[]), Err(1));
         assert_eq!(check(&bad_axiom(), &[]), Err(2));
         assert_eq!(check(&bad_axiom(), &BAD_STEPS), Err(2));
@@ -65,7 +65,7 @@ fn the_schema_comes_first() {
 /// Each refusal is looked for before the next: a record with several faults.
 #[test]
 fn the_concept_is_checked_by_itself() {
-    for check in [check_concept, check_view] {
+    for check in [check_concept, check_query, check_view] {
         assert_eq!(check(&schema(), &[]), Err(3));
         assert_eq!(check(&schema(), &[1, 1, 1, 1, 5]), Err(3));
         assert_eq!(check(&schema(), &[1, 1, 1, 1]), Err(4));

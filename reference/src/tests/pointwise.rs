@@ -10,6 +10,7 @@ const ALPHABET: Alphabet = Alphabet {
     classes: 2,
     attributes: 2,
     constants: 2,
+    marks: 2,
 };
 
 fn in_concept(state: &State, concept: &Concept, object: usize) -> bool {
@@ -17,6 +18,7 @@ fn in_concept(state: &State, concept: &Concept, object: usize) -> bool {
         Concept::Class(class) => state.classes[*class].contains(&object),
         Concept::Everything => true,
         Concept::Constant(constant) => state.constants[*constant] == object,
+        Concept::Mark(mark) => state.marks[mark] == object,
         Concept::Both(left, right) => {
             in_concept(state, left, object) && in_concept(state, right, object)
         }
@@ -57,6 +59,9 @@ fn random_state(prng: &mut Prng) -> State {
         constants: (0..ALPHABET.constants)
             .map(|_| prng.below(objects))
             .collect(),
+        marks: (0..ALPHABET.marks)
+            .map(|mark| (mark, prng.below(objects)))
+            .collect(),
     }
 }
 
@@ -67,9 +72,9 @@ fn sets_and_formulas_agree() {
     for _ in 0..3000 {
         let state = random_state(&mut prng);
         let concept = random::concept(&mut prng, ALPHABET, 4);
-        for (object, mark) in selected(&state, &concept).into_iter().enumerate() {
-            assert_eq!(mark, in_concept(&state, &concept, object), "{concept:?}");
-            *(if mark { &mut inside } else { &mut outside }) += 1;
+        for (object, is_in) in selected(&state, &concept).into_iter().enumerate() {
+            assert_eq!(is_in, in_concept(&state, &concept, object), "{concept:?}");
+            *(if is_in { &mut inside } else { &mut outside }) += 1;
         }
     }
     assert!(inside >= 1000, "{inside} inside");
@@ -82,7 +87,7 @@ fn links_and_formulas_agree() {
     let (mut none, mut some) = (0, 0);
     for _ in 0..2000 {
         let state = random_state(&mut prng);
-        let concept = random::concept(&mut prng, ALPHABET, 4);
+        let concept = random::concept(&mut prng, ALPHABET.unmarked(), 4);
         for (attribute, pairs) in state.attributes.iter().enumerate() {
             let is_link = |pair: &_| {
                 let (first, _) = *pair;

@@ -9,6 +9,8 @@ pub struct Alphabet {
     pub classes: usize,
     pub attributes: usize,
     pub constants: usize,
+    /// How many marks a concept may use: none but in a query.
+    pub marks: usize,
 }
 
 pub fn schema(prng: &mut Prng, alphabet: Alphabet, axioms: usize) -> Schema {
@@ -47,6 +49,13 @@ fn axiom(prng: &mut Prng, alphabet: Alphabet) -> Axiom {
     }
 }
 
+impl Alphabet {
+    /// The same without marks, as for a view.
+    pub fn unmarked(self) -> Self {
+        Alphabet { marks: 0, ..self }
+    }
+}
+
 /// A concept of at most the given steps whose record is accepted. Parts are
 /// joined until a random share of the steps is used, so few come out trivial.
 pub fn concept(prng: &mut Prng, alphabet: Alphabet, steps: usize) -> Concept {
@@ -72,6 +81,7 @@ fn fits(concept: &Concept, steps: usize) -> bool {
 fn any(prng: &mut Prng, alphabet: Alphabet, steps: &mut usize, depth: usize) -> Concept {
     let sorts = if depth == 0 { 6 } else { 14 };
     match prng.below(sorts) {
+        0..=5 if alphabet.marks > 0 && prng.chance(50) => Concept::Mark(prng.below(alphabet.marks)),
         0..=1 => Concept::Class(prng.below(alphabet.classes)),
         2 => Concept::Everything,
         3..=5 if alphabet.constants > 0 => Concept::Constant(prng.below(alphabet.constants)),
@@ -107,20 +117,21 @@ fn path(prng: &mut Prng, alphabet: Alphabet, steps: &mut usize, depth: usize) ->
     path
 }
 
-/// A concept that asks less than the given one, so that held verdicts are not
-/// rare; a random one if it would have too many steps.
+/// A view that asks less than the given query, so that held verdicts are not rare;
+/// a random one if it would have too many steps.
 pub fn weakened(prng: &mut Prng, alphabet: Alphabet, from: &Concept, steps: usize) -> Concept {
     let weaker = weaken(prng, from);
     if fits(&weaker, steps) {
         weaker
     } else {
-        concept(prng, alphabet, steps)
+        concept(prng, alphabet.unmarked(), steps)
     }
 }
 
 fn weaken(prng: &mut Prng, concept: &Concept) -> Concept {
     match concept {
         _ if prng.chance(10) => Concept::Everything,
+        Concept::Mark(_) => Concept::Everything,
         Concept::Both(left, _) if prng.chance(30) => weaken(prng, left),
         Concept::Both(_, right) if prng.chance(40) => weaken(prng, right),
         Concept::Both(left, right) => {

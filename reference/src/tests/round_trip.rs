@@ -3,13 +3,15 @@
 use super::prng::Prng;
 use super::random::{self, Alphabet};
 use super::write;
-use crate::records::{self, QUERY_STEPS};
+use crate::marks::used;
+use crate::records::{self, Place};
 use crate::syntax::State;
 
 const ALPHABET: Alphabet = Alphabet {
     classes: 24,
     attributes: 8,
     constants: 4,
+    marks: 4,
 };
 
 #[test]
@@ -21,7 +23,13 @@ fn schemas_and_concepts() {
         assert_eq!(records::schema(&write::schema(&schema)), Ok(schema.clone()));
         let concept = random::concept(&mut prng, ALPHABET, 16);
         let words = write::concept(&concept);
-        assert_eq!(records::concept(&words, &schema, QUERY_STEPS), Ok(concept));
+        assert_eq!(records::concept(&words, &schema, Place::Query), Ok(concept));
+        let concept = random::concept(&mut prng, ALPHABET.unmarked(), 6);
+        let words = write::concept(&concept);
+        for place in [Place::Concept, Place::Query, Place::View] {
+            let decoded = records::concept(&words, &schema, place);
+            assert_eq!(decoded.as_ref(), Ok(&concept), "{place:?}");
+        }
     }
 }
 
@@ -40,12 +48,17 @@ fn states() {
         for &loose in &schema.loose {
             constants[loose] = prng.below(4);
         }
+        let query = random::concept(&mut prng, ALPHABET, 16);
+        let marks = used(&query);
         let state = State {
             objects,
             classes,
             attributes,
             constants,
+            // Some of them share objects as well.
+            marks: marks.iter().map(|&mark| (mark, prng.below(3))).collect(),
         };
-        assert_eq!(records::state(&write::state(&state), &schema), Ok(state));
+        let words = write::state(&state);
+        assert_eq!(records::state(&words, &schema, &marks), Ok(state));
     }
 }

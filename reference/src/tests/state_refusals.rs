@@ -1,11 +1,15 @@
-//! Refusals 7 to 10 and the state's limits.
+//! Refusals 7 to 10 and the state's limits, without marks and with them.
 
-use super::write::{axioms_record, fact, loose_record, record};
-use crate::entries::select;
+use super::write::{axioms_record, fact, loose_record, record, tokens_record};
+use crate::entries::Counterexample;
+use crate::entries::{counterexample, legal, links_by_first, links_by_second, select};
 use crate::records::{schema, state};
+use std::collections::BTreeSet;
 
 /// Two classes, one attribute, two constants.
 const SIZES: [u16; 3] = [2, 1, 2];
+
+const EVERYTHING: [u16; 4] = [1, 0, 2, 0];
 
 fn refusal_under(sizes: [u16; 3], words: &[u16]) -> u16 {
     loose_refusal(sizes, 0, words)
@@ -14,7 +18,26 @@ fn refusal_under(sizes: [u16; 3], words: &[u16]) -> u16 {
 /// The refusal where the constants are loose that the word marks.
 fn loose_refusal(sizes: [u16; 3], loose: u16, words: &[u16]) -> u16 {
     let schema = schema(&loose_record(sizes, loose, &[])).expect("an alphabet without axioms");
-    state(words, &schema).err().unwrap_or(0)
+    state(words, &schema, &BTreeSet::new()).err().unwrap_or(0)
+}
+
+/// A query for everything that uses these marks.
+fn asking(marks: &[usize]) -> Vec<u16> {
+    let mut tokens = vec![(2, 0)];
+    for &mark in marks {
+        tokens.extend([(10, mark as u16), (4, 0)]);
+    }
+    tokens_record(&tokens)
+}
+
+/// The refusal of three objects with these facts beside those of the constants,
+/// in the place of a counterexample for a query that uses these marks.
+fn chosen_refusal(marks: &[usize], facts: &[(u16, u16)]) -> u16 {
+    let facts = [&[fact(32, 0, 0), fact(33, 1, 0)], facts].concat();
+    let schema = axioms_record(SIZES, &[]);
+    let words = record(&[3, facts.len() as u16], &facts);
+    let answer = counterexample(&schema, &asking(marks), &EVERYTHING, &words);
+    answer.err().unwrap_or(0)
 }
 
 /// The refusal of three objects with these facts.
@@ -22,8 +45,9 @@ fn facts_refusal(facts: &[(u16, u16)]) -> u16 {
     refusal_under(SIZES, &record(&[3, facts.len() as u16], facts))
 }
 
-/// As many facts as a state may have, over all that can be declared.
-fn full_facts() -> Vec<(u16, u16)> {
+/// As many facts as a state may have, over all that can be declared, if these
+/// marks are used.
+fn full_facts(marks: &[usize]) -> Vec<(u16, u16)> {
     let mut facts = Vec::new();
     for class in 0..24 {
         facts.extend((0..480).map(|object| fact(class, object, 0)));
@@ -33,6 +57,8 @@ fn full_facts() -> Vec<(u16, u16)> {
         facts.extend((0..480).map(|object| fact(attribute, object, 479)));
     }
     facts.extend((0..4).map(|constant| fact(32 + constant, constant, 0)));
+    facts.extend(marks.iter().map(|mark| fact(36 + mark, 479, 0)));
+    facts.extend((marks.len()..4).map(|far| fact(24, 1, far)));
     facts.sort_unstable();
     facts
 }
@@ -58,18 +84,36 @@ fn object_counts() {
 #[test]
 fn fact_counts() {
     let sizes = [24, 8, 4];
-    let mut facts = full_facts();
-    assert_eq!(facts.len(), 15_380);
-    let words = record(&[480, 15_380], &facts);
-    assert_eq!(words.len(), 30_762);
+    let mut facts = full_facts(&[]);
+    assert_eq!(facts.len(), 15_384);
+    let words = record(&[480, 15_384], &facts);
+    assert_eq!(words.len(), 30_770);
     assert_eq!(refusal_under(sizes, &words), 0);
     let mut lent = [0; 480];
-    let everything = [1, 0, 2, 0];
     let schema = axioms_record(sizes, &[]);
-    assert_eq!(select(&schema, &everything, &words, &mut lent), Ok(480));
+    assert_eq!(select(&schema, &EVERYTHING, &words, &mut lent), Ok(480));
     facts.insert(24 * 480, fact(24, 0, 0));
-    let words = record(&[480, 15_381], &facts);
+    let words = record(&[480, 15_385], &facts);
     assert_eq!(refusal_under(sizes, &words), 7);
+}
+
+/// The limit is the same however many of the facts are of marks.
+#[test]
+fn fact_counts_with_marks() {
+    let schema = axioms_record([24, 8, 4], &[]);
+    for used in 0..=4 {
+        let marks: Vec<usize> = (0..used).collect();
+        let query = asking(&marks);
+        let answer = |facts: &[_]| {
+            let words = record(&[480, facts.len() as u16], facts);
+            counterexample(&schema, &query, &EVERYTHING, &words)
+        };
+        let mut facts = full_facts(&marks);
+        assert_eq!(facts.len(), 15_384);
+        assert_eq!(answer(&facts), Ok(Counterexample::No), "{used}");
+        facts.insert(24 * 480, fact(24, 0, 0));
+        assert_eq!(answer(&facts), Err(7), "{used}");
+    }
 }
 
 #[test]
@@ -94,6 +138,8 @@ fn bad_facts() {
         fact(31, 0, 0),
         fact(34, 0, 0),
         fact(36, 0, 0),
+        fact(39, 0, 0),
+        fact(40, 0, 0),
         fact(127, 0, 0),
         fact(0, 3, 0),
         fact(0, 511, 0),
@@ -197,6 +243,95 @@ fn loose_constants_have_one_object_each() {
     assert_eq!(refusal(&several), 10);
     assert_eq!(refusal(&[fact(32, 1, 0), fact(33, 1, 0)]), 0);
     assert_eq!(loose_refusal(SIZES, 0b11, &[0, 0]), 10);
+}
+
+/// Every choice from the four marks.
+fn choices() -> impl Iterator<Item = Vec<usize>> {
+    (0..16).map(|word| (0..4).filter(|mark| word >> mark & 1 == 1).collect())
+}
+
+/// A mark may share its object with a constant and with another mark.
+#[test]
+fn a_used_mark_has_one_object() {
+    for used in choices() {
+        for object in 0..3 {
+            let facts: Vec<(u16, u16)> = used.iter().map(|m| fact(36 + m, object, 0)).collect();
+            assert_eq!(chosen_refusal(&used, &facts), 0, "{used:?}");
+            for (place, &mark) in used.iter().enumerate() {
+                let mut fewer = facts.clone();
+                fewer.remove(place);
+                assert_eq!(chosen_refusal(&used, &fewer), 10, "{used:?}, {mark}");
+                let mut more = facts.clone();
+                more.push(fact(36 + mark, (object + 1) % 3, 0));
+                more.sort_unstable();
+                assert_eq!(chosen_refusal(&used, &more), 10, "{used:?}, {mark}");
+            }
+        }
+    }
+}
+
+#[test]
+fn a_mark_that_is_not_used_has_no_object() {
+    for used in choices() {
+        for unused in (0..5).filter(|mark| !used.contains(mark)) {
+            let mut facts: Vec<(u16, u16)> = used.iter().map(|m| fact(36 + m, 2, 0)).collect();
+            facts.push(fact(36 + unused, 0, 0));
+            facts.sort_unstable();
+            assert_eq!(chosen_refusal(&used, &facts), 8, "{used:?}, {unused}");
+        }
+    }
+}
+
+#[test]
+fn bad_choices() {
+    for mark in 0..4 {
+        for bad in [
+            fact(36 + mark, 3, 0),
+            fact(36 + mark, 511, 0),
+            fact(36 + mark, 0, 1),
+        ] {
+            assert_eq!(chosen_refusal(&[mark], &[bad]), 8, "{bad:?}");
+        }
+    }
+    // In a state without objects there is none to choose.
+    let schema = axioms_record([0, 0, 0], &[]);
+    let empty = |query: &[u16]| counterexample(&schema, query, &EVERYTHING, &[0, 0]);
+    assert_eq!(empty(&asking(&[])), Ok(Counterexample::No));
+    assert_eq!(empty(&asking(&[2])), Err(10));
+}
+
+/// Select, legal and the counts of links use no mark.
+#[test]
+fn no_mark_is_used_without_a_query() {
+    let schema = axioms_record([0, 1, 0], &[]);
+    let refusals = |words: &[u16]| {
+        [
+            select(&schema, &EVERYTHING, words, &mut [0]).err(),
+            legal(&schema, words).err(),
+            links_by_first(&schema, &EVERYTHING, words, 0).err(),
+            links_by_second(&schema, &EVERYTHING, words, 0).err(),
+        ]
+    };
+    assert_eq!(refusals(&[1, 0]), [None; 4]);
+    for kind in 36..=40 {
+        let words = record(&[1, 1], &[fact(kind, 0, 0)]);
+        assert_eq!(refusals(&words), [Some(8); 4], "{kind}");
+    }
+}
+
+/// 8 comes first, then 9, then 10, of marks as of the rest.
+#[test]
+fn choices_are_checked_in_order() {
+    let unused_and_disordered = [fact(36, 1, 0), fact(36, 0, 0), fact(38, 0, 0)];
+    assert_eq!(chosen_refusal(&[0], &unused_and_disordered), 8);
+    assert_eq!(chosen_refusal(&[0], &[fact(37, 0, 0)]), 8);
+    assert_eq!(chosen_refusal(&[0], &[fact(36, 1, 0), fact(36, 0, 0)]), 9);
+    assert_eq!(chosen_refusal(&[0], &[fact(36, 0, 0), fact(36, 0, 0)]), 9);
+    assert_eq!(
+        chosen_refusal(&[0, 1], &[fact(37, 0, 0), fact(36, 0, 0)]),
+        9
+    );
+    assert_eq!(chosen_refusal(&[0], &[fact(0, 0, 0)]), 9);
 }
 
 #[test]

@@ -77,6 +77,7 @@ fn put_concept(concept: &Concept, tokens: &mut Vec<(u16, u16)>) {
         Concept::Class(class) => tokens.push((1, word(*class))),
         Concept::Everything => tokens.push((2, 0)),
         Concept::Constant(constant) => tokens.push((3, word(*constant))),
+        Concept::Mark(mark) => tokens.push((10, word(*mark))),
         Concept::Both(left, right) => {
             put_concept(left, tokens);
             put_concept(right, tokens);
@@ -122,6 +123,8 @@ pub fn state(state: &State) -> Vec<u16> {
     }
     let constants = state.constants.iter().enumerate();
     pairs.extend(constants.map(|(constant, &object)| fact(32 + constant, object, 0)));
+    let marks = state.marks.iter();
+    pairs.extend(marks.map(|(mark, &object)| fact(36 + mark, object, 0)));
     record(&[word(state.objects), word(pairs.len())], &pairs)
 }
 
