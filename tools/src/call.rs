@@ -5,6 +5,7 @@ use bikuvoa::layout::{Layout, CONCEPT, DECIDE_WORDS, MAX_VIEWS, SCHEMA, STATE};
 #[derive(Clone, Copy, Debug, PartialEq, Eq)]
 pub enum Entry {
     CheckConcept,
+    CheckQuery,
     CheckView,
     Select,
     Legal,
@@ -31,8 +32,9 @@ pub enum Place {
 }
 
 impl Entry {
-    pub const ALL: [Entry; 10] = [
+    pub const ALL: [Entry; 11] = [
         Entry::CheckConcept,
+        Entry::CheckQuery,
         Entry::CheckView,
         Entry::Select,
         Entry::Legal,
@@ -45,7 +47,7 @@ impl Entry {
     ];
 
     /// Those that check a concept by itself and tell what it names.
-    pub const CHECKS: [Entry; 2] = [Entry::CheckConcept, Entry::CheckView];
+    pub const CHECKS: [Entry; 3] = [Entry::CheckConcept, Entry::CheckQuery, Entry::CheckView];
 
     /// Those that count links, which take an attribute.
     pub const LINKS: [Entry; 2] = [Entry::LinksByFirst, Entry::LinksBySecond];
@@ -53,7 +55,7 @@ impl Entry {
     pub fn places(self) -> &'static [Place] {
         use Place::{Attribute, Catalogue, Lent, Order, Query, Rows, Schema, State, View};
         match self {
-            Entry::CheckConcept => &[Schema, Query],
+            Entry::CheckConcept | Entry::CheckQuery => &[Schema, Query],
             Entry::CheckView => &[Schema, View],
             Entry::Select => &[Schema, Query, State, Lent],
             Entry::Legal => &[Schema, State],
@@ -65,13 +67,23 @@ impl Entry {
         }
     }
 
+    /// Whether a query that is passed may have marks, and a state facts of them.
+    pub fn takes_marks(self) -> bool {
+        match self {
+            Entry::CheckQuery | Entry::Counterexample | Entry::Decide | Entry::Holds => true,
+            Entry::CheckConcept | Entry::CheckView | Entry::Catalogue => false,
+            Entry::Select | Entry::Legal => false,
+            Entry::LinksByFirst | Entry::LinksBySecond => false,
+        }
+    }
+
     /// How many words must be lent, over a state of so many objects.
     pub fn least_lent(self, objects: usize) -> usize {
         match self {
             Entry::Select => objects,
             Entry::Decide => DECIDE_WORDS,
             Entry::Catalogue => MAX_VIEWS,
-            Entry::CheckConcept | Entry::CheckView => 0,
+            Entry::CheckConcept | Entry::CheckQuery | Entry::CheckView => 0,
             Entry::Legal | Entry::Counterexample | Entry::Holds => 0,
             Entry::LinksByFirst | Entry::LinksBySecond => 0,
         }
@@ -88,6 +100,7 @@ impl Entry {
     pub fn name(self) -> &'static str {
         match self {
             Entry::CheckConcept => "check_concept",
+            Entry::CheckQuery => "check_query",
             Entry::CheckView => "check_view",
             Entry::Select => "select",
             Entry::Legal => "legal",
@@ -131,7 +144,7 @@ impl Place {
 
 /// A call; what its entry does not take is not looked at. The concept of
 /// check_concept, of select and of the counts of links stands in the place of the
-/// query, whose step limit it has.
+/// query, whose step limit it has, without marks.
 #[derive(Clone, Debug)]
 pub struct Call {
     pub entry: Entry,

@@ -28,6 +28,7 @@ impl Answerer for Proved {
         let [classes, attributes] = sets;
         match call.entry {
             Entry::CheckConcept => raw::check_concept(schema, query, classes, attributes, out),
+            Entry::CheckQuery => raw::check_query(schema, query, classes, attributes, out),
             Entry::CheckView => raw::check_view(schema, view, classes, attributes, out),
             Entry::Select => raw::select(schema, query, state, lent, out),
             Entry::Legal => raw::legal(schema, state, out),

@@ -3,14 +3,14 @@
 //! do with each other, in any order.
 
 use super::repair::{model, Values};
-use super::triple::{alter_token, Triple};
+use super::triple::{alter_token, Marks, Triple};
 use super::{concept, schema, witness, Scale};
 use crate::call::{Call, Entry};
 use crate::prng::Prng;
 use bikuvoa::layout::token::{self, BOTH, EMPTY, EVERYTHING, REACHED};
 use bikuvoa::layout::{self, Pair, Signature};
 use bikuvoa::layout::{MAX_CLASSES, MAX_CONSTANTS, MAX_TOKENS, MAX_VIEWS, VIEW_STEPS};
-use reference::records;
+use reference::records::{self, Place};
 
 /// A schema and views, as the entries of their records.
 #[derive(Clone, Debug)]
@@ -22,7 +22,7 @@ pub struct Catalogue {
 
 impl Catalogue {
     pub fn random(prng: &mut Prng) -> Self {
-        let triple = Triple::random(prng);
+        let triple = Triple::random(prng, Marks::Without);
         let count = match prng.below(10) {
             0..=2 => prng.between(1, 4),
             3..=4 => MAX_VIEWS,
@@ -121,7 +121,7 @@ impl Catalogue {
     /// often wider than it by the axioms; nothing if there is no such state.
     fn followed(&self, prng: &mut Prng, from: &[Pair]) -> Option<Vec<Pair>> {
         let schema = records::schema(&self.schema_words()).ok()?;
-        let from = records::concept(&layout::concept(from), &schema, records::VIEW_STEPS).ok()?;
+        let from = records::concept(&layout::concept(from), &schema, Place::View).ok()?;
         let (sketch, start) = model(self.signature, &schema, &from, Values::New, prng).ok()?;
         let budget = concept::budget(prng, Scale::Small);
         Some(witness::tokens(prng, &sketch, start, VIEW_STEPS, budget))

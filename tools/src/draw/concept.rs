@@ -3,7 +3,7 @@
 use super::Scale;
 use crate::prng::Prng;
 use bikuvoa::layout::token::{self, BOTH, COMMON, EMPTY, EVERYTHING, REACHED};
-use bikuvoa::layout::{Pair, Signature, MAX_TOKENS};
+use bikuvoa::layout::{Pair, Signature, MAX_MARKS, MAX_TOKENS};
 
 /// A concept over the signature with at most the given steps.
 pub(super) fn tokens(
@@ -45,6 +45,40 @@ fn leaf(prng: &mut Prng, signature: Signature) -> Pair {
 /// Any of the constants, of which there must be one.
 fn constant(prng: &mut Prng, signature: Signature) -> Pair {
     token::constant(prng.word_below(signature.constants))
+}
+
+/// The query with one to four marks: for leaves, beside them, so beside constants
+/// as well, and beside other concepts. Few places or many have the same mark.
+pub(super) fn marked(prng: &mut Prng, query: &[Pair]) -> Vec<Pair> {
+    let mut marks: Vec<Pair> = (0..MAX_MARKS).map(token::mark).collect();
+    prng.shuffle(&mut marks);
+    marks.truncate(prng.one_of([1, 2, 2, 3, 4, 4]));
+    let percent = prng.one_of([20, 40, 80]);
+    let mut tokens: Vec<Pair> = Vec::new();
+    let mut room = MAX_TOKENS - query.len();
+    for &token in query {
+        tokens.push(token);
+        let mark = marks[prng.below(marks.len())];
+        if !puts_concept(token) || !prng.chance(percent) {
+            continue;
+        }
+        if token::is_leaf(token) && (room < 2 || prng.chance(50)) {
+            tokens.pop();
+            tokens.push(mark);
+        } else if room >= 2 {
+            tokens.extend([mark, BOTH]);
+            room -= 2;
+        }
+    }
+    let is_marked = tokens.iter().any(|&(sort, _)| sort == token::MARK);
+    if !is_marked && room >= 2 {
+        tokens.extend([marks[0], BOTH]);
+    }
+    tokens
+}
+
+fn puts_concept(token: Pair) -> bool {
+    token::is_leaf(token) || [BOTH, REACHED, COMMON].contains(&token)
 }
 
 struct Draft<'a> {

@@ -8,7 +8,8 @@ use crate::word;
 use bikuvoa::layout::token::{self, EMPTY, EVERYTHING, REACHED};
 use bikuvoa::layout::{self, fact, Layout, Signature};
 use bikuvoa::layout::{CONCEPT, LOOSE, QUERY_STEPS, STATE, VIEW_STEPS};
-use bikuvoa::layout::{MAX_ATTRIBUTES, MAX_CLASSES, MAX_CONSTANTS, MAX_OBJECTS, MAX_VIEWS};
+use bikuvoa::layout::{MAX_ATTRIBUTES, MAX_CLASSES, MAX_CONSTANTS, MAX_MARKS};
+use bikuvoa::layout::{MAX_OBJECTS, MAX_VIEWS};
 
 /// Damages what stands at the place.
 pub fn damage(prng: &mut Prng, call: &mut Call, place: Place) {
@@ -20,10 +21,10 @@ pub fn damage(prng: &mut Prng, call: &mut Call, place: Place) {
 }
 
 fn damage_record(prng: &mut Prng, place: Place, layout: &Layout, words: &mut Vec<u16>) {
-    // What is marked as loose is looked at after a schema's shape and before its
-    // axioms, so it is damaged alone and beside them.
+    // What is loose is looked at after a schema's shape and before its axioms, so it
+    // is damaged alone and beside them.
     if place == Place::Schema && prng.chance(25) {
-        mark_another(prng, words);
+        loosen_another(prng, words);
         if prng.chance(50) {
             return;
         }
@@ -33,7 +34,9 @@ fn damage_record(prng: &mut Prng, place: Place, layout: &Layout, words: &mut Vec
         3 => cut(prng, words),
         4 => lengthen(prng, words),
         5 => *words = random_words(prng),
-        6..=7 if place == Place::State => name_otherwise(prng, words),
+        6 if place == Place::State => name_otherwise(prng, words),
+        7..=8 if place == Place::State => choose_another(prng, words),
+        6 if matches!(place, Place::Query | Place::View) => put_mark(prng, words),
         6..=8 => alter_entries(prng, layout, words),
         9 => fill(prng, layout, words),
         _ => reach_limit(prng, place, words),
@@ -140,9 +143,9 @@ fn flip_word(prng: &mut Prng, sizes: usize, words: &mut [u16]) {
     };
 }
 
-/// Marks another constant as loose, or no longer: the lowest that is not declared,
-/// the highest that can be marked, or any.
-fn mark_another(prng: &mut Prng, words: &mut [u16]) {
+/// Makes another constant loose, or no longer: the lowest that is not declared, the
+/// highest that has a bit, or any.
+fn loosen_another(prng: &mut Prng, words: &mut [u16]) {
     if let Some(declared) = Signature::of(words) {
         let highest = u16::BITS as u16 - 1;
         let any = prng.word_below(highest + 1);
@@ -199,8 +202,51 @@ fn fill(prng: &mut Prng, layout: &Layout, words: &mut Vec<u16>) {
     *words = layout.record(words, &entries);
 }
 
-/// Has a constant name no object, two, or that of another constant, which only two
-/// that are not loose may not share.
+/// A mark, or what would be one above the last, for a leaf of a concept. It may stand
+/// in some concepts only, and then the state has no object for it.
+fn put_mark(prng: &mut Prng, words: &mut Vec<u16>) {
+    let tokens = CONCEPT.entries(words).map(Vec::from_iter);
+    let mut tokens = tokens.unwrap_or_default();
+    let leaves: Vec<usize> = (0..tokens.len())
+        .filter(|&place| token::is_leaf(tokens[place]))
+        .collect();
+    let Some(place) = prng.pick(&leaves) else {
+        return lengthen(prng, words);
+    };
+    tokens[place] = token::mark(mark_or_more(prng));
+    *words = CONCEPT.record(words, &tokens);
+}
+
+/// A mark, the lowest number that is none, the highest, or any.
+fn mark_or_more(prng: &mut Prng) -> u16 {
+    let any = prng.word();
+    match prng.below(6) {
+        0 => prng.one_of([MAX_MARKS, u16::MAX, any]),
+        _ => prng.word_below(MAX_MARKS),
+    }
+}
+
+/// Has one mark more be an object, or one that is an object already be another as
+/// well; now and then of a kind above the last, with a right word, or out of order.
+fn choose_another(prng: &mut Prng, words: &mut Vec<u16>) {
+    let Some(mut facts) = STATE.entries(words).map(Vec::from_iter) else {
+        return lengthen(prng, words);
+    };
+    let objects = layout::objects(words).unwrap_or_default();
+    let mark = prng.word_below(MAX_MARKS + 1);
+    let (left, _) = fact::choice(mark, prng.word_below(objects.max(1)));
+    let right = u16::from(prng.chance(20));
+    facts.push((left, right));
+    if prng.chance(80) {
+        facts.sort_unstable();
+    } else {
+        facts.reverse();
+    }
+    *words = STATE.record(words, &facts);
+}
+
+/// Has a constant or a mark name no object, two, or that of another of them, which
+/// only two constants that are not loose may not share.
 fn name_otherwise(prng: &mut Prng, words: &mut Vec<u16>) {
     let Some(mut facts) = STATE.entries(words).map(Vec::from_iter) else {
         return lengthen(prng, words);
@@ -211,8 +257,9 @@ fn name_otherwise(prng: &mut Prng, words: &mut Vec<u16>) {
     let (Some(&one), Some(&other)) = (names.first(), names.last()) else {
         return lengthen(prng, words);
     };
-    let constant = fact::kind(facts[one]) - fact::CONSTANT_KINDS;
-    let name = fact::name(constant, fact::object(facts[other]));
+    // As if marks were further constants: their kinds follow.
+    let number = fact::kind(facts[one]) - fact::CONSTANT_KINDS;
+    let name = fact::name(number, fact::object(facts[other]));
     match prng.below(4) {
         0 => drop(facts.remove(one)),
         1 => facts.push(name),

@@ -5,6 +5,7 @@ use super::sketch::{Clash, Sketch};
 use crate::prng::Prng;
 use crate::word;
 use bikuvoa::layout::Signature;
+use reference::marks::used;
 use reference::syntax::{Axiom, Concept, Schema};
 
 /// Where the values that the schema needs come from.
@@ -39,7 +40,7 @@ pub(super) fn repair(
 }
 
 /// A legal state with an object in the query, and that object. Where values may be
-/// any objects, loose constants may be as well.
+/// any objects, loose constants and marks may be as well.
 pub(super) fn model(
     signature: Signature,
     schema: &Schema,
@@ -52,6 +53,9 @@ pub(super) fn model(
         sketch.share(prng);
     }
     let start = sketch.add_object();
+    if values == Values::Any {
+        sketch.choose(prng, &used(query));
+    }
     sketch.put(start, query)?;
     repair(&mut sketch, schema, values, prng)?;
     Ok((sketch, start))

@@ -5,7 +5,7 @@ use crate::prng::Prng;
 use crate::word;
 use bikuvoa::layout::{fact, Signature};
 use reference::syntax::{Concept, Direction, Path};
-use std::collections::BTreeSet;
+use std::collections::{BTreeMap, BTreeSet};
 
 /// Two constants, neither of them loose, would be one object.
 #[derive(Debug)]
@@ -21,6 +21,8 @@ pub(super) struct Sketch {
     /// Attribute, first and second object.
     pairs: BTreeSet<(u16, usize, usize)>,
     constants: Vec<usize>,
+    /// The object of each mark that has one.
+    marks: BTreeMap<usize, usize>,
 }
 
 impl Sketch {
@@ -33,6 +35,7 @@ impl Sketch {
             classes: vec![0; constants.len()],
             pairs: BTreeSet::new(),
             constants,
+            marks: BTreeMap::new(),
         }
     }
 
@@ -119,7 +122,7 @@ impl Sketch {
             .iter()
             .map(|&(attribute, first, second)| (attribute, rename(first), rename(second)))
             .collect();
-        for named in &mut self.constants {
+        for named in self.constants.iter_mut().chain(self.marks.values_mut()) {
             *named = rename(*named);
         }
         Ok(())
@@ -138,8 +141,18 @@ impl Sketch {
         }
     }
 
+    /// Gives some of the marks any object.
+    pub(super) fn choose(&mut self, prng: &mut Prng, marks: &BTreeSet<usize>) {
+        let objects = self.objects();
+        for &mark in marks {
+            if prng.chance(30) {
+                self.marks.insert(mark, objects[prng.below(objects.len())]);
+            }
+        }
+    }
+
     /// Adds what puts the object in the concept, with new objects at the ends
-    /// of steps.
+    /// of steps. A mark without an object gets this one.
     pub(super) fn put(&mut self, object: usize, concept: &Concept) -> Result<(), Clash> {
         match concept {
             Concept::Class(class) => {
@@ -148,6 +161,11 @@ impl Sketch {
             }
             Concept::Everything => Ok(()),
             Concept::Constant(constant) => self.merge(self.constants[*constant], object),
+            Concept::Mark(mark) => {
+                let present = self.present(object);
+                let chosen = *self.marks.entry(*mark).or_insert(present);
+                self.merge(chosen, object)
+            }
             Concept::Both(left, right) => {
                 self.put(object, left)?;
                 self.put(object, right)
@@ -196,6 +214,9 @@ impl Sketch {
         }
         for (constant, &object) in (0..).zip(&self.constants) {
             facts.push(fact::name(constant, numbers[object]));
+        }
+        for (&mark, &object) in &self.marks {
+            facts.push(fact::choice(word(mark), numbers[object]));
         }
         State::new(objects.len(), facts)
     }

@@ -2,15 +2,19 @@
 
 use super::repair::{model, repair, Values};
 use super::sketch::Sketch;
+use crate::call::Entry;
 use crate::prng::Prng;
 use crate::word;
 use bikuvoa::layout::{self, fact, Pair, Signature, MAX_FACTS, MAX_OBJECTS};
+use reference::marks::used;
 use reference::syntax::{Concept, Schema};
+use std::collections::BTreeSet;
 
 /// The most objects, as a count.
 const OBJECTS: usize = MAX_OBJECTS as usize;
 
-/// A state as its number of objects and its ascending facts.
+/// A state as its number of objects and its ascending facts, with those of the marks
+/// that a query uses.
 #[derive(Clone, Debug)]
 pub struct State {
     pub objects: usize,
@@ -24,17 +28,45 @@ impl State {
         State { objects, facts }
     }
 
-    pub fn words(&self) -> Vec<u16> {
-        layout::state(word(self.objects), &self.facts)
+    /// The record for an entry: without facts of marks, where it takes no marks.
+    pub fn words_for(&self, entry: Entry) -> Vec<u16> {
+        let end = if entry.takes_marks() {
+            self.facts.len()
+        } else {
+            self.first_of(fact::MARK_KINDS)
+        };
+        layout::state(word(self.objects), &self.facts[..end])
+    }
+
+    /// The place of the first fact of that kind or a higher one.
+    fn first_of(&self, kind: u16) -> usize {
+        self.facts
+            .partition_point(|&entry| fact::kind(entry) < kind)
+    }
+
+    /// With any object for each of the marks that has none yet, and so with an object
+    /// at all.
+    fn choosing(self, prng: &mut Prng, marks: &BTreeSet<usize>) -> Self {
+        let State { objects, mut facts } = self;
+        let objects = objects.max(marks.len().min(1));
+        for &mark in marks {
+            let kind = fact::MARK_KINDS + word(mark);
+            if !facts.iter().any(|&entry| fact::kind(entry) == kind) {
+                facts.push(fact::choice(word(mark), word(prng.below(objects))));
+            }
+        }
+        State::new(objects, facts)
     }
 }
 
-/// A state for the schema. Some have an object in the query, some obey the
+/// A state for the schema, and for the marks that the query uses. Some have an object in the query, some obey the
 /// schema, some are a fact away from it, and a few reach the limits.
 pub fn state(prng: &mut Prng, signature: Signature, schema: &Schema, query: &Concept) -> State {
     match prng.below(1000) {
         0..=27 => large(prng, signature, schema, query),
-        28..=79 => scattered(prng, signature, 60).state(prng),
+        28..=79 => scattered(prng, signature, 60)
+            .state(prng)
+            .choosing(prng, &used(query)),
         80..=249 => {
             let state = small(prng, signature, schema, query);
             one_fact_away(prng, signature, &state)
@@ -46,8 +78,10 @@ pub fn state(prng: &mut Prng, signature: Signature, schema: &Schema, query: &Con
 /// A state of up to as many objects as there may be.
 pub fn large(prng: &mut Prng, signature: Signature, schema: &Schema, query: &Concept) -> State {
     match prng.below(14) {
-        0 => full(prng, signature),
-        1..=3 => scattered(prng, signature, OBJECTS).state(prng),
+        0 => full(prng, signature, &used(query)),
+        1..=3 => scattered(prng, signature, OBJECTS)
+            .state(prng)
+            .choosing(prng, &used(query)),
         _ => {
             let state = small(prng, signature, schema, query);
             copies(prng, &state)
@@ -58,7 +92,7 @@ pub fn large(prng: &mut Prng, signature: Signature, schema: &Schema, query: &Con
 /// As large as a record can be: every object in all classes and its own value
 /// of every attribute, with random pairs for the rest of the facts. A loose
 /// constant names the object of any constant.
-pub(super) fn full(prng: &mut Prng, signature: Signature) -> State {
+pub(super) fn full(prng: &mut Prng, signature: Signature, marks: &BTreeSet<usize>) -> State {
     let mut facts = Vec::new();
     for object in 0..MAX_OBJECTS {
         facts.extend((0..signature.classes).map(|class| fact::member(class, object)));
@@ -73,7 +107,7 @@ pub(super) fn full(prng: &mut Prng, signature: Signature) -> State {
         };
         facts.push(fact::name(constant, object));
     }
-    let mut state = State::new(OBJECTS, facts);
+    let mut state = State::new(OBJECTS, facts).choosing(prng, marks);
     while signature.attributes > 0 && state.facts.len() < MAX_FACTS {
         for _ in state.facts.len()..MAX_FACTS {
             let pair = random_pair(prng, signature, OBJECTS);
@@ -88,7 +122,7 @@ pub(super) fn full(prng: &mut Prng, signature: Signature) -> State {
 /// would be one object, the facts stay as they were scattered.
 fn small(prng: &mut Prng, signature: Signature, schema: &Schema, query: &Concept) -> State {
     let sketch = scattered(prng, signature, 8);
-    match prng.below(10) {
+    let state = match prng.below(10) {
         0..=2 => sketch.state(prng),
         3..=4 => {
             let mut repaired = sketch.clone();
@@ -101,7 +135,8 @@ fn small(prng: &mut Prng, signature: Signature, schema: &Schema, query: &Concept
             Ok((model, _)) => model.state(prng),
             Err(_) => sketch.state(prng),
         },
-    }
+    };
+    state.choosing(prng, &used(query))
 }
 
 /// Random facts over at most the given number of objects.
@@ -147,7 +182,7 @@ fn copies(prng: &mut Prng, state: &State) -> State {
     State::new(count * state.objects, facts)
 }
 
-/// The fact with its objects shifted; a constant keeps its one object.
+/// The fact with its objects shifted; a constant or a mark keeps its one object.
 fn moved((left, right): Pair, shift: u16) -> Option<Pair> {
     match fact::kind((left, right)) {
         kind if kind < fact::ATTRIBUTE_KINDS => Some((left + shift, right)),
@@ -156,11 +191,17 @@ fn moved((left, right): Pair, shift: u16) -> Option<Pair> {
     }
 }
 
-/// The state with one fact more or less, but with each constant's object.
+/// The state with one fact more or less, or with another object for a mark, but
+/// with an object of each constant and mark.
 fn one_fact_away(prng: &mut Prng, signature: Signature, state: &State) -> State {
     let mut facts = state.facts.clone();
-    let free = facts.partition_point(|&entry| fact::kind(entry) < fact::CONSTANT_KINDS);
-    if free > 0 && prng.chance(60) {
+    let free = state.first_of(fact::CONSTANT_KINDS);
+    let chosen: Vec<usize> = (state.first_of(fact::MARK_KINDS)..facts.len()).collect();
+    if !chosen.is_empty() && prng.chance(40) {
+        let place = chosen[prng.below(chosen.len())];
+        let mark = fact::kind(facts[place]) - fact::MARK_KINDS;
+        facts[place] = fact::choice(mark, word(prng.below(state.objects)));
+    } else if free > 0 && prng.chance(60) {
         facts.remove(prng.below(free));
     } else if state.objects > 0 && signature.attributes > 0 && prng.chance(50) {
         facts.push(random_pair(prng, signature, state.objects));

@@ -2,12 +2,14 @@
 
 use super::catalogue::Catalogue;
 use super::repair::{model, Values};
-use super::triple::Triple;
+use super::triple::{Marks, Triple};
 use super::{attribute, state, wide};
 use crate::call::Entry;
 use crate::prng::Prng;
-use bikuvoa::layout::{self, Signature};
-use reference::entries::{catalogue, holds, legal, select, CATALOGUE_WORDS};
+use bikuvoa::layout::{self, token, Pair, Signature};
+use reference::entries::{catalogue, counterexample, holds, legal, links_by_first};
+use reference::entries::{check_concept, select, CATALOGUE_WORDS};
+use reference::marks::used;
 use reference::records;
 use reference::semantics::{first_broken, selected};
 
@@ -22,15 +24,81 @@ fn assert_accepted(triple: &Triple) {
 #[test]
 fn triples_are_accepted() {
     let mut prng = Prng::new(31);
-    for _ in 0..DRAWS {
-        assert_accepted(&Triple::random(&mut prng));
-        assert_accepted(&Triple::of_all_names(&mut prng));
-        let followed = Triple::followed(&mut prng);
-        assert_accepted(&followed);
-        assert_accepted(&followed.near_miss(&mut prng));
+    for marks in [Marks::Without, Marks::With] {
+        for _ in 0..DRAWS {
+            assert_accepted(&Triple::random(&mut prng, marks));
+            assert_accepted(&Triple::of_all_names(&mut prng, marks));
+            let followed = Triple::followed(&mut prng, marks);
+            assert_accepted(&followed);
+            assert_accepted(&followed.near_miss(&mut prng));
+        }
+        for _ in 0..20 {
+            assert_accepted(&wide::triple(&mut prng, marks));
+        }
     }
-    for _ in 0..20 {
-        assert_accepted(&wide::triple(&mut prng));
+}
+
+/// The marks of the triple's query, as often as they stand there.
+fn marks(triple: &Triple) -> Vec<u16> {
+    let marks = triple
+        .query
+        .iter()
+        .filter(|&&(sort, _)| sort == token::MARK);
+    marks.map(|&(_, mark)| mark).collect()
+}
+
+/// Whether a constant stands beside a mark.
+fn is_beside_constant(triple: &Triple) -> bool {
+    let is_beside = |three: &[Pair]| {
+        let sorts = [three[0].0, three[1].0, three[2].0];
+        sorts == [token::CONSTANT, token::MARK, token::BOTH.0]
+    };
+    triple.query.windows(3).any(is_beside)
+}
+
+/// One to four of them, once or more often, and beside constants. Only a marked query
+/// has marks, and no view has.
+#[test]
+fn queries_have_marks_or_not() {
+    let mut prng = Prng::new(39);
+    let mut counts = [0; 1 + layout::MAX_MARKS as usize];
+    let (mut once, mut often, mut beside) = (0, 0, 0);
+    for _ in 0..DRAWS {
+        let unmarked = Triple::random(&mut prng, Marks::Without);
+        assert_eq!(marks(&unmarked), []);
+        for triple in [Triple::random, Triple::followed].map(|draw| draw(&mut prng, Marks::With)) {
+            let places = marks(&triple);
+            let used = used(&triple.decoded().1);
+            counts[used.len()] += 1;
+            let of = |mark: &usize| places.iter().filter(|&&m| usize::from(m) == *mark).count();
+            once += usize::from(used.iter().any(|mark| of(mark) == 1));
+            often += usize::from(used.iter().any(|mark| of(mark) > 2));
+            beside += usize::from(is_beside_constant(&triple));
+            assert!(triple.view.iter().all(|&(sort, _)| sort != token::MARK));
+        }
+    }
+    assert!(counts[0] == 0, "{counts:?}");
+    let is_common = |part: &usize| part * 20 > DRAWS;
+    assert!(counts[1..].iter().all(is_common), "{counts:?}");
+    assert!(
+        [once, often, beside].iter().all(is_common),
+        "{once}, {often}, {beside}"
+    );
+}
+
+/// What takes no marks gets none.
+#[test]
+fn calls_have_marks_where_they_may() {
+    let mut prng = Prng::new(40);
+    for _ in 0..DRAWS {
+        let triple = Triple::random(&mut prng, Marks::With);
+        let (schema, query) = triple.decoded();
+        let state = state::state(&mut prng, triple.signature, &schema, &query);
+        for entry in Entry::ALL {
+            let call = triple.call(entry, state.words_for(entry), 0);
+            let has_marks = check_concept(&call.schema, &call.query) == Err(4);
+            assert_eq!(has_marks, entry.takes_marks(), "{entry:?}");
+        }
     }
 }
 
@@ -46,7 +114,7 @@ fn catalogues_are_accepted() {
         let groups = catalogue(&call.schema, &call.catalogue, rows, order);
         assert!(groups.is_ok(), "{groups:?} of {drawn:?}");
         counts[drawn.views.len()] += 1;
-        let triple = Triple::random(&mut prng);
+        let triple = Triple::random(&mut prng, Marks::Without);
         let related = Catalogue::related(&mut prng, &triple, 3);
         assert_eq!(related.views.len(), 3);
         assert!(related.views.contains(&triple.view));
@@ -59,11 +127,20 @@ fn catalogues_are_accepted() {
 fn states_are_accepted() {
     let mut prng = Prng::new(32);
     for _ in 0..DRAWS {
-        let triple = Triple::random(&mut prng);
+        let marks = Marks::draw(&mut prng);
+        let triple = Triple::random(&mut prng, marks);
         let (schema, query) = triple.decoded();
         let state = state::state(&mut prng, triple.signature, &schema, &query);
-        let answer = legal(&triple.schema_words(), &state.words());
-        assert!(answer.is_ok(), "{answer:?} of {state:?}");
+        let call = |entry| triple.call(entry, state.words_for(entry), 0);
+        let judged = call(Entry::Legal);
+        let legal = legal(&judged.schema, &judged.state);
+        assert!(legal.is_ok(), "{legal:?} of {state:?}");
+        let tried = call(Entry::Counterexample);
+        let found = counterexample(&tried.schema, &tried.query, &tried.view, &tried.state);
+        assert!(found.is_ok(), "{found:?} of {state:?}");
+        let counted = call(Entry::LinksByFirst);
+        let links = links_by_first(&counted.schema, &counted.query, &counted.state, 0);
+        assert!(matches!(links, Ok(_) | Err(12)), "{links:?} of {state:?}");
     }
 }
 
@@ -72,7 +149,7 @@ fn attributes_are_declared_or_not() {
     let mut prng = Prng::new(36);
     let (mut lowest, mut highest) = (0, 0);
     for _ in 0..DRAWS {
-        let signature = Triple::random(&mut prng).signature;
+        let signature = Triple::random(&mut prng, Marks::Without).signature;
         let declared = attribute::declared(&mut prng, signature);
         assert_eq!(declared.is_none(), signature.attributes == 0);
         assert!(declared.is_none_or(|number| number < signature.attributes));
@@ -95,7 +172,7 @@ fn constants_are_loose_or_not() {
     for _ in 0..DRAWS {
         let Signature {
             constants, loose, ..
-        } = Triple::random(&mut prng).signature;
+        } = Triple::random(&mut prng, Marks::Without).signature;
         let declared = (1 << constants) - 1;
         assert_eq!(loose & !declared, 0);
         match loose {
@@ -116,14 +193,15 @@ fn models_are_legal_and_have_the_query() {
     let mut prng = Prng::new(33);
     let mut models = 0;
     for _ in 0..DRAWS {
-        let triple = Triple::random(&mut prng);
+        let marks = Marks::draw(&mut prng);
+        let triple = Triple::random(&mut prng, marks);
         let (schema, query) = triple.decoded();
         let values = prng.one_of([Values::New, Values::Any]);
         let Ok((sketch, _)) = model(triple.signature, &schema, &query, values, &mut prng) else {
             continue;
         };
-        let words = sketch.state(&mut prng).words();
-        let state = records::state(&words, &schema).expect("an accepted state");
+        let words = sketch.state(&mut prng).words_for(Entry::Counterexample);
+        let state = records::state(&words, &schema, &used(&query)).expect("an accepted state");
         assert_eq!(first_broken(&schema, &state), None, "{triple:?}");
         assert!(selected(&state, &query).contains(&true), "{triple:?}");
         models += 1;
@@ -138,7 +216,8 @@ fn concepts_read_off_a_model_have_its_object() {
     let mut prng = Prng::new(34);
     let (mut drawn, mut missed) = (0, 0);
     for _ in 0..DRAWS {
-        let triple = Triple::random(&mut prng);
+        let marks = Marks::draw(&mut prng);
+        let triple = Triple::random(&mut prng, marks);
         let (schema, query) = triple.decoded();
         let model = model(triple.signature, &schema, &query, Values::Any, &mut prng);
         let Ok((sketch, start)) = model else {
@@ -146,9 +225,10 @@ fn concepts_read_off_a_model_have_its_object() {
         };
         let view = super::witness::tokens(&mut prng, &sketch, start, layout::VIEW_STEPS, 20);
         let state = sketch.state(&mut prng);
-        let mut marks = vec![0; state.objects];
-        let words = (triple.schema_words(), layout::concept(&view), state.words());
-        let count = select(&words.0, &words.1, &words.2, &mut marks);
+        let mut lent = vec![0; state.objects];
+        let words = state.words_for(Entry::Select);
+        let view = layout::concept(&view);
+        let count = select(&triple.schema_words(), &view, &words, &mut lent);
         drawn += 1;
         missed += usize::from(count == Ok(0));
     }
@@ -164,7 +244,12 @@ fn the_full_state_has_all_facts() {
         constants: layout::MAX_CONSTANTS,
         loose: 0,
     };
-    let state = state::full(&mut prng, signature);
-    assert_eq!(state.facts.len(), layout::MAX_FACTS);
-    assert_eq!(state.words().len(), layout::DECIDE_WORDS);
+    for used in 0..=layout::MAX_MARKS.into() {
+        let state = state::full(&mut prng, signature, &(0..used).collect());
+        assert_eq!(state.facts.len(), layout::MAX_FACTS);
+        let words = state.words_for(Entry::Counterexample);
+        assert_eq!(words.len(), layout::DECIDE_WORDS);
+        let fewer = state.words_for(Entry::Select);
+        assert_eq!(fewer.len(), layout::DECIDE_WORDS - 2 * used);
+    }
 }

@@ -4,14 +4,28 @@ use super::repair::{model, Values};
 use super::{concept, schema, witness, Scale};
 use crate::call::{Call, Entry};
 use crate::prng::Prng;
-use bikuvoa::layout::token::{self, BACKWARD, BOTH, EVERYTHING, FORWARD};
+use bikuvoa::layout::token::{self, BACKWARD, BOTH, EVERYTHING, FORWARD, MARK};
 use bikuvoa::layout::{self, Pair, Signature, MAX_TOKENS, QUERY_STEPS, VIEW_STEPS};
-use bikuvoa::layout::{MAX_ATTRIBUTES, MAX_CLASSES, MAX_CONSTANTS};
-use reference::records;
+use bikuvoa::layout::{MAX_ATTRIBUTES, MAX_CLASSES, MAX_CONSTANTS, MAX_MARKS};
+use reference::records::{self, Place};
 use reference::syntax::{Concept, Schema};
 
 /// How often a token that comes out as it was is drawn again.
 const TRIES: usize = 4;
+
+/// Whether a query has marks.
+#[derive(Clone, Copy, PartialEq, Eq)]
+pub enum Marks {
+    Without,
+    With,
+}
+
+impl Marks {
+    /// One as often as the other.
+    pub fn draw(prng: &mut Prng) -> Self {
+        prng.one_of([Marks::Without, Marks::With])
+    }
+}
 
 /// A triple as the entries of its records.
 #[derive(Clone, Debug)]
@@ -24,17 +38,17 @@ pub struct Triple {
 
 impl Triple {
     /// A query and a view that have nothing to do with each other.
-    pub fn random(prng: &mut Prng) -> Self {
+    pub fn random(prng: &mut Prng, marks: Marks) -> Self {
         let scale = Scale::draw(prng);
-        Triple::random_at(prng, scale)
+        Triple::random_at(prng, scale).marked(prng, marks)
     }
 
     /// As `random`, with all the classes, attributes and constants that there may
     /// be, and of any size that records may have.
-    pub fn of_all_names(prng: &mut Prng) -> Self {
+    pub fn of_all_names(prng: &mut Prng, marks: Marks) -> Self {
         let declared = [MAX_CLASSES, MAX_ATTRIBUTES, MAX_CONSTANTS];
         let signature = schema::declaring(prng, declared);
-        Triple::random_over(prng, signature, Scale::Large)
+        Triple::random_over(prng, signature, Scale::Large).marked(prng, marks)
     }
 
     fn random_at(prng: &mut Prng, scale: Scale) -> Self {
@@ -54,10 +68,11 @@ impl Triple {
     /// A view read off a legal state that was made for the query. It is often
     /// held, and then by following the axioms; where the state has more than
     /// they force, it is often just missed.
-    pub fn followed(prng: &mut Prng) -> Self {
+    pub fn followed(prng: &mut Prng, marks: Marks) -> Self {
         let scale = Scale::draw(prng);
         let mut triple = Triple::random_at(prng, scale);
         triple.ask_for_class(prng);
+        let mut triple = triple.marked(prng, marks);
         let values = prng.one_of([Values::New, Values::Any]);
         let (schema, query) = triple.decoded();
         if let Ok((sketch, start)) = model(triple.signature, &schema, &query, values, prng) {
@@ -65,6 +80,17 @@ impl Triple {
             triple.view = witness::tokens(prng, &sketch, start, VIEW_STEPS, budget);
         }
         triple
+    }
+
+    /// The triple with marks in its query, if it is to have them.
+    pub(super) fn marked(self, prng: &mut Prng, marks: Marks) -> Self {
+        match marks {
+            Marks::Without => self,
+            Marks::With => Triple {
+                query: concept::marked(prng, &self.query),
+                ..self
+            },
+        }
     }
 
     /// Also asks the query's object for a class, so that axioms have a hold on
@@ -101,7 +127,7 @@ impl Triple {
     pub fn decoded(&self) -> (Schema, Concept) {
         let schema = records::schema(&self.schema_words()).expect("a drawn schema is accepted");
         let query = layout::concept(&self.query);
-        let query = records::concept(&query, &schema, records::QUERY_STEPS);
+        let query = records::concept(&query, &schema, Place::Query);
         (schema, query.expect("a drawn query is accepted"))
     }
 
@@ -111,12 +137,16 @@ impl Triple {
     }
 
     /// A call with the triple's records and a state's, with attribute 0 and without a
-    /// catalogue.
+    /// catalogue. Where the entry takes no marks, everything stands for each.
     pub fn call(&self, entry: Entry, state: Vec<u16>, lent: usize) -> Call {
+        let query = self.query.iter().map(|&token| match token {
+            (MARK, _) if !entry.takes_marks() => EVERYTHING,
+            token => token,
+        });
         Call {
             entry,
             schema: self.schema_words(),
-            query: layout::concept(&self.query),
+            query: layout::concept(&query.collect::<Vec<_>>()),
             view: layout::concept(&self.view),
             catalogue: Vec::new(),
             state,
@@ -145,13 +175,14 @@ pub(super) fn alter_token(prng: &mut Prng, signature: Signature, tokens: &mut [P
     }
 }
 
-/// A leaf that asks something for a leaf; a step turned round, or with any
-/// attribute.
+/// A leaf that asks something for a leaf, often a mark for a mark; a step turned
+/// round, or with any attribute.
 fn other_token(prng: &mut Prng, signature: Signature, token: Pair) -> Pair {
     match token {
         (FORWARD, attribute) if prng.chance(50) => (BACKWARD, attribute),
         (BACKWARD, attribute) if prng.chance(50) => (FORWARD, attribute),
         (sort @ (FORWARD | BACKWARD), _) => (sort, prng.word_below(signature.attributes)),
+        (MARK, _) if prng.chance(60) => token::mark(prng.word_below(MAX_MARKS)),
         _ if signature.constants > 0 && prng.chance(20) => {
             token::constant(prng.word_below(signature.constants))
         }

@@ -2,7 +2,7 @@
 //! that need every attribute, and a view that follows the needs of each.
 
 use super::schema;
-use super::triple::Triple;
+use super::triple::{Marks, Triple};
 use crate::prng::Prng;
 use bikuvoa::layout::token::{self, BOTH, EMPTY, EVERYTHING, REACHED};
 use bikuvoa::layout::{axiom, Pair, Signature, QUERY_STEPS, VIEW_STEPS};
@@ -16,16 +16,18 @@ const OTHER: u16 = 1;
 /// fewer tokens than there may be.
 const STRETCH: usize = 4;
 
-/// A triple that is often open, with a state of hundreds of objects.
-pub fn triple(prng: &mut Prng) -> Triple {
+/// A triple that is often open, with a state of hundreds of objects. Marks make it
+/// smaller, since they merge objects.
+pub fn triple(prng: &mut Prng, marks: Marks) -> Triple {
     let constants = prng.word_below(MAX_CONSTANTS + 1);
     let signature = schema::declaring(prng, [2, MAX_ATTRIBUTES, constants]);
-    Triple {
+    let triple = Triple {
         signature,
         axioms: axioms(prng, signature),
         query: query(prng, signature),
         view: view(prng, signature),
-    }
+    };
+    triple.marked(prng, marks)
 }
 
 /// Most values are needy again. Nothing is single, so nothing merges.

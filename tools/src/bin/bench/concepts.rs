@@ -2,7 +2,7 @@
 
 use crate::schemas::{CONSULTS, NAME, SKILLED_IN, SUFFERS, WEARS};
 use crate::schemas::{DISEASE, DOCTOR, FEMALE, FREE, MALE, PATIENT, PERSON, STRAP, STRING};
-use bikuvoa::layout::token::{backward, class, forward};
+use bikuvoa::layout::token::{backward, class, forward, mark};
 use bikuvoa::layout::token::{BOTH, COMMON, EMPTY, EVERYTHING, REACHED};
 use bikuvoa::layout::{concept, Pair, MAX_ATTRIBUTES, MAX_CLASSES, MAX_TOKENS};
 use bikuvoa::layout::{QUERY_STEPS, VIEW_STEPS};
@@ -55,6 +55,31 @@ pub fn patients() -> Vec<u16> {
         class(DOCTOR),
         backward(SKILLED_IN),
         COMMON,
+        BOTH,
+    ])
+}
+
+/// The same with a mark for the doctor, who stands in two paths.
+pub fn marked_patients() -> Vec<u16> {
+    concept(&[
+        class(MALE),
+        class(PATIENT),
+        BOTH,
+        EMPTY,
+        class(FEMALE),
+        mark(0),
+        BOTH,
+        forward(CONSULTS),
+        REACHED,
+        BOTH,
+        EMPTY,
+        EVERYTHING,
+        forward(SUFFERS),
+        class(DOCTOR),
+        mark(0),
+        BOTH,
+        backward(SKILLED_IN),
+        REACHED,
         BOTH,
     ])
 }
@@ -125,6 +150,24 @@ pub fn long_paths() -> Vec<u16> {
     filled(tokens)
 }
 
+/// The same two paths, each to the object of one mark.
+pub fn marked_paths() -> Vec<u16> {
+    let mut tokens = Vec::new();
+    for step in [forward(0), backward(0)] {
+        put_path(&mut tokens, 1, (0..QUERY_STEPS / 2).map(|_| step));
+        mark_end(&mut tokens, 0);
+        tokens.push(REACHED);
+    }
+    tokens.push(BOTH);
+    filled(tokens)
+}
+
+/// Has the last step of a path, which ends the tokens, land on the object of a mark.
+fn mark_end(tokens: &mut Vec<Pair>, number: u16) {
+    let step = tokens.len() - 1;
+    tokens.splice(step..step, [mark(number), BOTH]);
+}
+
 /// A path of six steps.
 pub fn six_steps() -> Vec<u16> {
     let mut tokens = Vec::new();
@@ -135,10 +178,22 @@ pub fn six_steps() -> Vec<u16> {
 
 /// Four paths of four steps along all attributes.
 pub fn star() -> Vec<u16> {
+    star_with(|_, _| {})
+}
+
+/// The same with a mark at each end. The first two ends are one object, and so are the
+/// last two.
+pub fn marked_star() -> Vec<u16> {
+    star_with(|tokens, arm| mark_end(tokens, arm / 2))
+}
+
+/// With what `finish` does to the path of each arm.
+fn star_with(finish: fn(&mut Vec<Pair>, u16)) -> Vec<u16> {
     let mut tokens = vec![EMPTY, REACHED];
     for arm in 0..4 {
         let steps = (0..4).map(|step| forward((4 * arm + step) % MAX_ATTRIBUTES));
         put_path(&mut tokens, 0, steps);
+        finish(&mut tokens, arm);
         tokens.extend([REACHED, BOTH]);
     }
     filled(tokens)

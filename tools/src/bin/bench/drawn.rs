@@ -4,7 +4,7 @@
 use bikuvoa::layout::MAX_VIEWS;
 use tools::call::{Call, Entry};
 use tools::draw::catalogue::Catalogue;
-use tools::draw::triple::Triple;
+use tools::draw::triple::{Marks, Triple};
 use tools::draw::{attribute, state, wide};
 use tools::prng::Prng;
 
@@ -13,13 +13,14 @@ pub const CALLS: usize = 200;
 const SEED: u64 = 1;
 
 /// The calls of an entry. All entries have the same triples, states and
-/// attributes, and catalogues are under the triples' schemas.
-pub fn calls(entry: Entry) -> Vec<Call> {
+/// attributes, and catalogues are under the triples' schemas. Queries with marks are
+/// others than those without, since a mark is drawn as well.
+pub fn calls(entry: Entry, marks: Marks) -> Vec<Call> {
     let mut prng = Prng::new(SEED);
     let mut attributes = prng.aside();
     let mut catalogues = attributes.aside();
     let calls = (0..CALLS).map(|place| {
-        let triple = triple(&mut prng, place);
+        let triple = triple(&mut prng, marks, place);
         let mut call = call(&mut prng, &mut attributes, entry, &triple, place);
         if entry == Entry::Catalogue {
             let views = catalogues.between(1, MAX_VIEWS);
@@ -44,7 +45,8 @@ fn call(
         _ => state::state,
     };
     let state = state(prng, triple.signature, &schema, &query);
-    let mut call = triple.call(entry, state.words(), entry.least_lent(state.objects));
+    let words = state.words_for(entry);
+    let mut call = triple.call(entry, words, entry.least_lent(state.objects));
     call.attribute = attribute::declared(attributes, triple.signature).unwrap_or(0);
     call
 }
@@ -52,12 +54,12 @@ fn call(
 /// Half of the triples have a view that has to do with the query, as those that
 /// are put to a store will have, and a few need states of hundreds of objects. One
 /// without attributes is drawn anew, since a count of links would be refused.
-fn triple(prng: &mut Prng, place: usize) -> Triple {
+fn triple(prng: &mut Prng, marks: Marks, place: usize) -> Triple {
     loop {
         let triple = match (place % 50, place % 2) {
-            (0, _) => wide::triple(prng),
-            (_, 0) => Triple::random(prng),
-            _ => Triple::followed(prng),
+            (0, _) => wide::triple(prng, marks),
+            (_, 0) => Triple::random(prng, marks),
+            _ => Triple::followed(prng, marks),
         };
         if triple.signature.attributes > 0 {
             return triple;

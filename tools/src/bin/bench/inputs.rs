@@ -3,6 +3,7 @@
 use crate::{catalogues, concepts, drawn, schemas, states};
 use bikuvoa::layout::{MAX_OBJECTS, QUERY_STEPS, VIEW_STEPS};
 use tools::call::{Call, Entry};
+use tools::draw::triple::Marks;
 
 /// A call and what is said of it in the table.
 pub struct Input {
@@ -13,15 +14,46 @@ pub struct Input {
 pub const SMALL: &str = "small";
 pub const MIDDLE: &str = "middle";
 pub const LARGEST: &str = "largest";
+const MIDDLE_MARKS: &str = "middle, marks";
+const LARGEST_MARKS: &str = "largest, marks";
 const EVERYTHING: [&str; 3] = [
     "small, everything",
     "middle, everything",
     "largest, everything",
 ];
 
-/// A small, a middle and a largest input for each entry.
+/// A small, a middle and a largest input for each entry, and those with marks.
 pub fn by_entry_and_size() -> Vec<Input> {
-    Entry::ALL.into_iter().flat_map(by_size).collect()
+    let inputs = Entry::ALL.into_iter();
+    let inputs = inputs.flat_map(|entry| by_size(entry).into_iter().chain(with_marks(entry)));
+    inputs.collect()
+}
+
+/// Inputs with marks in the query, where the entry takes them, to be read beside those
+/// of the same size without.
+fn with_marks(entry: Entry) -> Vec<Input> {
+    if !entry.takes_marks() {
+        return Vec::new();
+    }
+    let middle = Call {
+        query: concepts::marked_patients(),
+        state: states::choosing(states::all_alike(60, schemas::MEDICAL)),
+        ..middle(entry)
+    };
+    let largest = largest(entry);
+    let largest = match entry {
+        Entry::Counterexample => Call {
+            query: concepts::marked_paths(),
+            state: states::choosing(states::dense(1)),
+            ..largest
+        },
+        _ => Call {
+            query: concepts::marked_star(),
+            ..largest
+        },
+    };
+    let inputs = [(MIDDLE_MARKS, middle), (LARGEST_MARKS, largest)];
+    inputs.map(|(size, call)| Input { size, call }).into()
 }
 
 /// The counts of links, to be measured beside select with the same concept and
@@ -83,8 +115,14 @@ pub fn named(entry: &str, input: &str) -> Result<Vec<Call>, String> {
         SMALL => Ok(vec![small(entry)]),
         MIDDLE => Ok(vec![middle(entry)]),
         LARGEST => Ok(vec![largest(entry)]),
-        "random" => Ok(drawn::calls(entry)),
-        _ => Err(format!("no input {input}")),
+        "random" => Ok(drawn::calls(entry, Marks::Without)),
+        "random, marks" if entry.takes_marks() => Ok(drawn::calls(entry, Marks::With)),
+        _ => {
+            let mut marked = with_marks(entry).into_iter();
+            let found = marked.find(|marked| marked.size == input);
+            let found = found.ok_or(format!("no input {input}"))?;
+            Ok(vec![found.call])
+        }
     }
 }
 
@@ -96,7 +134,8 @@ fn small(entry: Entry) -> Call {
         _ => schemas::straps(),
     };
     let query = match entry {
-        Entry::CheckConcept | Entry::Select => concepts::there_and_back(),
+        Entry::CheckConcept | Entry::CheckQuery => concepts::there_and_back(),
+        Entry::Select => concepts::there_and_back(),
         Entry::LinksByFirst | Entry::LinksBySecond => concepts::wearers(),
         _ => concepts::person(),
     };
@@ -137,12 +176,12 @@ fn middle(entry: Entry) -> Call {
 /// the facts, axioms where every class and attribute is in use.
 fn largest(entry: Entry) -> Call {
     let (schema, state) = match entry {
-        Entry::Select | Entry::Counterexample => (schemas::dense(), states::dense()),
-        Entry::LinksByFirst | Entry::LinksBySecond => (schemas::dense(), states::dense()),
+        Entry::Select | Entry::Counterexample => (schemas::dense(), states::dense(0)),
+        Entry::LinksByFirst | Entry::LinksBySecond => (schemas::dense(), states::dense(0)),
         _ => (schemas::largest(), states::largest()),
     };
     let (query, view) = match entry {
-        Entry::CheckConcept | Entry::CheckView => (
+        Entry::CheckConcept | Entry::CheckQuery | Entry::CheckView => (
             concepts::all_named(QUERY_STEPS),
             concepts::all_named(VIEW_STEPS),
         ),

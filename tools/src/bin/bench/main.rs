@@ -17,6 +17,7 @@ use std::time::{Duration, Instant};
 use table::{Beside, Pairs, Random, Row};
 use timing::{OF_MANY_INPUTS, OF_ONE_INPUT};
 use tools::call::{Answerer, Call, Entry};
+use tools::draw::triple::Marks;
 use tools::proved::Proved;
 
 /// How long calls are repeated at least.
@@ -47,7 +48,11 @@ fn print_tables() -> Result<(), String> {
     let rows: Vec<Row> = rows.collect::<Result<_, _>>()?;
     table::print_calls(&rows);
     table::print_growth(&rows);
-    let random = Entry::ALL.iter().map(|&entry| measure_random(entry));
+    let unmarked = Entry::ALL.map(|entry| (entry, Marks::Without));
+    let marked = Entry::ALL.map(|entry| (entry, Marks::With));
+    let marked = marked.iter().filter(|(entry, _)| entry.takes_marks());
+    let random = unmarked.iter().chain(marked);
+    let random = random.map(|&(entry, marks)| measure_random(entry, marks));
     let random: Vec<Random> = random.collect::<Result<_, _>>()?;
     table::print_random(&random);
     let beside = inputs::beside_select();
@@ -81,8 +86,8 @@ fn measure(input: &Input) -> Result<Row, String> {
     })
 }
 
-fn measure_random(entry: Entry) -> Result<Random, String> {
-    let calls = drawn::calls(entry);
+fn measure_random(entry: Entry, marks: Marks) -> Result<Random, String> {
+    let calls = drawn::calls(entry, marks);
     let times = calls.iter().map(|call| {
         let (proved, reference) = (timing::proved(call)?, timing::reference(call));
         Ok(timing::in_turn(OF_MANY_INPUTS, proved, reference))
@@ -90,6 +95,7 @@ fn measure_random(entry: Entry) -> Result<Random, String> {
     let (proved, reference) = times.collect::<Result<_, String>>()?;
     Ok(Random {
         entry,
+        marks,
         words: calls.iter().map(Call::words).collect(),
         proved,
         reference,

@@ -1,8 +1,8 @@
 //! The states of the inputs.
 
 use crate::schemas::{LARGEST, PERSON, STRAP, WEARS};
-use bikuvoa::layout::fact::{member, name, pair};
-use bikuvoa::layout::{state, Pair, Signature, MAX_FACTS, MAX_OBJECTS};
+use bikuvoa::layout::fact::{choice, member, name, pair};
+use bikuvoa::layout::{state, Pair, Signature, MAX_FACTS, MAX_OBJECTS, STATE};
 use tools::word;
 
 /// State S of document 01.
@@ -49,13 +49,20 @@ fn alike(objects: u16, signature: Signature) -> Vec<Pair> {
     facts
 }
 
-/// All facts that a record can have, nearly all of them pairs.
-pub fn dense() -> Vec<u16> {
+/// The state with an object for mark 0.
+pub fn choosing(words: Vec<u16>) -> Vec<u16> {
+    let facts = STATE.entries(&words).into_iter().flatten();
+    let facts: Vec<Pair> = facts.chain([choice(0, 0)]).collect();
+    STATE.record(&words, &facts)
+}
+
+/// All facts that a record can have but for so many, nearly all of them pairs.
+pub fn dense(spare: usize) -> Vec<u16> {
     let mut facts = Vec::new();
     for class in 0..2 {
         facts.extend((0..MAX_OBJECTS).map(|object| member(class, object)));
     }
-    let pairs = (0..word(MAX_FACTS - facts.len())).map(|number| {
+    let pairs = (0..word(MAX_FACTS - spare - facts.len())).map(|number| {
         let (far, object) = (number / MAX_OBJECTS, number % MAX_OBJECTS);
         pair(0, object, (object + far) % MAX_OBJECTS)
     });

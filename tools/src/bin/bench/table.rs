@@ -4,6 +4,7 @@ use crate::drawn::CALLS;
 use crate::inputs::{LARGEST, SMALL};
 use bikuvoa::layout::MAX_VIEWS;
 use tools::call::Entry;
+use tools::draw::triple::Marks;
 
 /// An input with its times in nanoseconds.
 pub struct Row {
@@ -33,6 +34,7 @@ pub fn print_calls(rows: &[Row]) {
 /// Random calls of an entry, with the words and the times in nanoseconds of each.
 pub struct Random {
     pub entry: Entry,
+    pub marks: Marks,
     pub words: Vec<usize>,
     pub proved: Vec<f64>,
     pub reference: Vec<f64>,
@@ -46,7 +48,11 @@ pub fn print_random(rows: &[Random]) {
     );
     println!("|---|--:|--:|--:|--:|--:|--:|--:|--:|");
     for row in rows {
-        print!("| {} | {} |", row.entry.name(), range(&row.words));
+        let marks = match row.marks {
+            Marks::Without => "",
+            Marks::With => ", marks",
+        };
+        print!("| {}{marks} | {} |", row.entry.name(), range(&row.words));
         for of in [mean, median] {
             let (proved, reference) = (of(&row.proved), of(&row.reference));
             let ratio = reference / proved;

@@ -104,6 +104,7 @@ pub fn reference(call: &Call) -> impl FnMut() + '_ {
         } = black_box(call);
         match call.entry {
             Entry::CheckConcept => keep(entries::check_concept(schema, query)),
+            Entry::CheckQuery => keep(entries::check_query(schema, query)),
             Entry::CheckView => keep(entries::check_view(schema, view)),
             Entry::Select => keep(entries::select(schema, query, state, &mut lent)),
             Entry::Legal => keep(entries::legal(schema, state)),

@@ -7,7 +7,7 @@ use std::fmt;
 use tools::call::{Answerer, Call, Entry, Place};
 use tools::draw::catalogue::Catalogue;
 use tools::draw::damage::damage;
-use tools::draw::triple::Triple;
+use tools::draw::triple::{Marks, Triple};
 use tools::draw::{attribute, state};
 use tools::prng::Prng;
 
@@ -48,7 +48,8 @@ impl fmt::Display for Tally {
 pub fn run(tested: &dyn Answerer, prng: &mut Prng, count: usize) -> Result<Tally, Box<Difference>> {
     let mut tally = Tally::default();
     while tally.calls() < count {
-        let triple = Triple::random(prng);
+        let marks = Marks::draw(prng);
+        let triple = Triple::random(prng, marks);
         tally.schemas.count(triple.signature);
         for entry in Entry::ALL {
             let call = sound(prng, entry, &triple);
@@ -79,7 +80,8 @@ fn times(place: Place) -> usize {
 fn sound(prng: &mut Prng, entry: Entry, triple: &Triple) -> Call {
     let (schema, query) = triple.decoded();
     let state = state::state(prng, triple.signature, &schema, &query);
-    let mut call = triple.call(entry, state.words(), entry.least_lent(state.objects));
+    let words = state.words_for(entry);
+    let mut call = triple.call(entry, words, entry.least_lent(state.objects));
     call.attribute = attribute::declared(prng, triple.signature).unwrap_or(0);
     if entry == Entry::Catalogue {
         let count = prng.between(1, VIEWS);

@@ -83,24 +83,28 @@ fn compare(seed: u64) -> Result<(), Box<Difference>> {
     .sum();
     println!(
         "compare: seed {seed}, {} schemas (with loose constants {}), {} triples (held {}, open {}, \
-         of these with two constants of one object {}), {} states (legal {}, with two constants of \
-         one object {}), {} link counts (not 0 {}), {} damaged records, {} checked concepts \
-         (accepted as views {}), {} catalogues (pairs held {}, groups of more than one view {}): \
-         no difference",
+         of these with two constants of one object {}; with marks {}, of these held {}), {} states \
+         (legal {}, with two constants of one object {}, with marks {}), {} link counts (not 0 {}), \
+         {} damaged records, {} checked concepts (accepted as views {}, with marks {}), {} catalogues \
+         (pairs held {}, groups of more than one view {}): no difference",
         schemas.drawn,
         schemas.loose,
         triples.triples(),
         triples.held(),
         triples.open(),
         triples.sharing,
+        triples.marked,
+        triples.marked_held,
         states.states,
         states.legal,
         states.sharing,
+        states.marked,
         states.links,
         states.linked,
         damaged.calls(),
         names.concepts,
         names.views,
+        names.marked,
         catalogues.catalogues,
         catalogues.held,
         catalogues.shared

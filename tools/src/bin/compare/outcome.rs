@@ -97,6 +97,7 @@ pub fn expected(call: &Call) -> Expected {
     } = call;
     let answer = match call.entry {
         Entry::CheckConcept => outcome.name(entries::check_concept(schema, query)),
+        Entry::CheckQuery => outcome.name(entries::check_query(schema, query)),
         Entry::CheckView => outcome.name(entries::check_view(schema, view)),
         Entry::Select => {
             let lent = &mut outcome.words[..call.lent];

@@ -1,10 +1,11 @@
-//! What is counted of schemas and states to see that constants are loose, and
-//! share objects.
+//! What is counted of schemas and states to see that constants are loose and share
+//! objects, and that marks do.
 
 use bikuvoa::layout::{fact, Signature, STATE};
 use std::collections::BTreeSet;
 use std::fmt;
 use std::iter::Sum;
+use std::ops::Range;
 
 /// How many schemas were drawn, and how many of them have loose constants.
 #[derive(Clone, Copy, Default)]
@@ -38,11 +39,21 @@ impl fmt::Display for Schemas {
 
 /// Whether two constants name one object in the state with which the words begin.
 pub fn shares(words: &[u16]) -> bool {
+    repeats(words, fact::CONSTANT_KINDS..fact::MARK_KINDS)
+}
+
+/// Whether two marks are one object in the state with which the words begin.
+pub fn meets(words: &[u16]) -> bool {
+    repeats(words, fact::MARK_KINDS..fact::FACT_KINDS)
+}
+
+/// Whether two facts of these kinds have one object.
+fn repeats(words: &[u16], kinds: Range<u16>) -> bool {
     let record = STATE.length(words).and_then(|length| words.get(..length));
     let Some(facts) = record.and_then(|words| STATE.entries(words)) else {
         return false;
     };
-    let mut names = facts.filter(|&fact| fact::kind(fact) >= fact::CONSTANT_KINDS);
+    let mut facts = facts.filter(|&fact| kinds.contains(&fact::kind(fact)));
     let mut objects = BTreeSet::new();
-    names.any(|name| !objects.insert(fact::object(name)))
+    facts.any(|fact| !objects.insert(fact::object(fact)))
 }

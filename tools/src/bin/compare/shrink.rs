@@ -1,7 +1,7 @@
 //! Makes a call that is answered wrongly smaller, as long as it still is.
 
-use bikuvoa::layout::token::{self, CONSTANT, EVERYTHING};
-use bikuvoa::layout::{self, fact, Layout, Pair, Signature, CONCEPT, SCHEMA, STATE};
+use bikuvoa::layout::token::{self, CONSTANT, EVERYTHING, MARK};
+use bikuvoa::layout::{self, fact, Layout, Pair, Signature, CONCEPT, MAX_MARKS, SCHEMA, STATE};
 use std::ops::Range;
 use std::time::{Duration, Instant};
 use tools::call::{Call, Place};
@@ -38,7 +38,7 @@ struct Shrinker<'a> {
 impl Shrinker<'_> {
     /// Each attempt at each place once; tells whether any helped.
     fn pass(&mut self) -> bool {
-        let mut helped = self.drop_constants();
+        let mut helped = self.drop_constants() | self.drop_marks();
         for &place in self.call.entry.places() {
             helped |= match place {
                 Place::Schema | Place::State => self.drop_entries(place),
@@ -203,6 +203,14 @@ impl Shrinker<'_> {
         })
     }
 
+    /// Drops marks, with the facts of them.
+    fn drop_marks(&mut self) -> bool {
+        (0..MAX_MARKS).rev().fold(false, |helped, mark| {
+            let call = without_mark(&self.call, mark);
+            call.is_some_and(|call| self.take_call(call)) | helped
+        })
+    }
+
     /// Drops single words, which only a damaged record can spare.
     fn drop_words(&mut self, place: Place) -> bool {
         let mut helped = false;
@@ -266,19 +274,41 @@ fn without_constant(call: &Call, dropped: u16) -> Option<Call> {
     };
     let mut call = call.clone();
     call.schema = layout::schema(signature, &axioms);
+    let kinds = fact::CONSTANT_KINDS..fact::MARK_KINDS;
+    drop_number(&mut call, CONSTANT, kinds, dropped);
+    Some(call)
+}
+
+/// The call without a mark, for which everything stands, if a token or a fact is of
+/// that mark or of a later one, which is numbered anew.
+fn without_mark(call: &Call, dropped: u16) -> Option<Call> {
+    let mut fewer = call.clone();
+    let kinds = fact::MARK_KINDS..fact::FACT_KINDS;
+    drop_number(&mut fewer, MARK, kinds, dropped);
+    let places = call.entry.places().iter();
+    let mut records = places.map(|&place| (call.record(place), fewer.record(place)));
+    records
+        .any(|(before, after)| before != after)
+        .then_some(fewer)
+}
+
+/// Drops what tokens of the sort and facts of the kinds say of a number, and numbers
+/// the later ones anew.
+fn drop_number(call: &mut Call, sort: u16, kinds: Range<u16>, dropped: u16) {
     let views = layout::views(&call.catalogue).unwrap_or_default();
     let mut views: Vec<Vec<u16>> = views.into_iter().map(Vec::from).collect();
     let concepts = views.iter_mut().chain([&mut call.query, &mut call.view]);
     for concept in concepts {
         alter_entries(&CONCEPT, concept, |token| {
-            Some(token_without(token, dropped))
+            Some(token_without(token, sort, dropped))
         });
     }
     if !views.is_empty() {
         call.catalogue = layout::catalogue(&views);
     }
-    alter_entries(&STATE, &mut call.state, |fact| fact_without(fact, dropped));
-    Some(call)
+    alter_entries(&STATE, &mut call.state, |fact| {
+        fact_without(fact, &kinds, dropped)
+    });
 }
 
 /// Puts others for the entries, or none, if the record's length fits their count.
@@ -289,21 +319,20 @@ fn alter_entries(layout: &Layout, words: &mut Vec<u16>, alter: impl Fn(Pair) -> 
     }
 }
 
-fn token_without(token: Pair, dropped: u16) -> Pair {
+fn token_without(token: Pair, sort: u16, dropped: u16) -> Pair {
     match token {
-        (CONSTANT, constant) if constant == dropped => EVERYTHING,
-        (CONSTANT, constant) if constant > dropped => (CONSTANT, constant - 1),
+        (found, number) if found == sort && number == dropped => EVERYTHING,
+        (found, number) if found == sort && number > dropped => (sort, number - 1),
         token => token,
     }
 }
 
-fn fact_without(fact: Pair, dropped: u16) -> Option<Pair> {
-    match fact::kind(fact).checked_sub(fact::CONSTANT_KINDS) {
-        Some(constant) if constant == dropped => None,
-        Some(constant) if constant > dropped => {
-            let (left, _) = fact::name(constant - 1, fact::object(fact));
-            Some((left, fact.1))
-        }
-        _ => Some(fact),
+fn fact_without(fact: Pair, kinds: &Range<u16>, dropped: u16) -> Option<Pair> {
+    let kind = fact::kind(fact);
+    if !kinds.contains(&kind) || kind < kinds.start + dropped {
+        return Some(fact);
     }
+    // As if it were of a class: kinds begin with the classes.
+    let (left, _) = fact::member(kind - 1, fact::object(fact));
+    (kind > kinds.start + dropped).then_some((left, fact.1))
 }

@@ -3,6 +3,7 @@
 
 mod catalogued;
 mod loose;
+mod marks;
 mod misread;
 mod mixes;
 mod smallest;
@@ -16,6 +17,8 @@ use tools::prng::Prng;
 const SEED: u64 = 3;
 const CALLS: usize = 3_000;
 const CATALOGUES: usize = 300;
+/// Some damage is rare.
+const DAMAGED: usize = 30_000;
 
 /// What the comparison of verdicts finds with a wrong answerer.
 fn triple_difference(wrong: &dyn Answerer) -> Box<Difference> {
@@ -39,6 +42,6 @@ fn catalogue_difference(wrong: &dyn Answerer) -> Box<Difference> {
 }
 
 fn damage_difference(wrong: &dyn Answerer) -> Box<Difference> {
-    let run = damaged::run(wrong, &mut Prng::new(SEED), CALLS);
+    let run = damaged::run(wrong, &mut Prng::new(SEED), DAMAGED);
     run.err().expect("a wrong refusal")
 }

@@ -1,10 +1,11 @@
 //! Decide and holds on random triples.
 
-use crate::schemas::{shares, Schemas};
+use crate::schemas::{meets, shares, Schemas};
 use crate::verify::{verify, Difference};
+use bikuvoa::layout::token;
 use std::fmt;
 use tools::call::{Answerer, Entry};
-use tools::draw::triple::Triple;
+use tools::draw::triple::{Marks, Triple};
 use tools::draw::wide;
 use tools::prng::Prng;
 
@@ -37,6 +38,12 @@ pub struct Tally {
     objects: u64,
     /// How many written states have two constants that name one object.
     pub sharing: usize,
+    /// How many triples have marks in their query.
+    pub marked: usize,
+    /// How many of them are held.
+    pub marked_held: usize,
+    /// How many written states have two marks that are one object.
+    pub meeting: usize,
 }
 
 impl Tally {
@@ -66,8 +73,9 @@ impl fmt::Display for Tally {
             f,
             "triples: random ({random}), view read off a model ({followed}), \
              near misses of held ({near_misses}), wide ({wide}); states of up to {} objects, \
-             with two constants of one object {}; {}",
-            self.objects, self.sharing, self.schemas
+             with two constants of one object {}; with marks {}, of these held {}, states with two \
+             marks of one object {}; {}",
+            self.objects, self.sharing, self.marked, self.marked_held, self.meeting, self.schemas
         )
     }
 }
@@ -76,15 +84,17 @@ impl fmt::Display for Tally {
 pub fn run(tested: &dyn Answerer, prng: &mut Prng, count: usize) -> Result<Tally, Box<Difference>> {
     let mut tally = Tally::default();
     while tally.triples() < count {
+        let marks = Marks::draw(prng);
         if prng.chance(2) {
-            let wide = wide::triple(prng);
+            let wide = wide::triple(prng, marks);
             tally.schemas.count(wide.signature);
             decide(tested, &wide, Source::Wide, &mut tally)?;
         }
-        let random = Triple::random(prng);
+        let random = Triple::random(prng, marks);
         tally.schemas.count(random.signature);
         decide(tested, &random, Source::Random, &mut tally)?;
-        let mut triple = Triple::followed(prng);
+        let marks = Marks::draw(prng);
+        let mut triple = Triple::followed(prng, marks);
         tally.schemas.count(triple.signature);
         let mut held = decide(tested, &triple, Source::Followed, &mut tally)?;
         // Away from a held triple in small changes, until it is open.
@@ -115,5 +125,9 @@ fn decide(
     mix.open += usize::from(!held);
     tally.objects = tally.objects.max(objects);
     tally.sharing += usize::from(!held && shares(&outcome.words));
+    let marked = triple.query.iter().any(|&(sort, _)| sort == token::MARK);
+    tally.marked += usize::from(marked);
+    tally.marked_held += usize::from(marked && held);
+    tally.meeting += usize::from(!held && meets(&outcome.words));
     Ok(held)
 }

@@ -3,7 +3,8 @@
 
 use crate::outcome::{expected, Expected, Outcome};
 use bikuvoa::layout::STATE;
-use reference::records::{self, QUERY_STEPS, VIEW_STEPS};
+use reference::marks::used;
+use reference::records::{self, Place};
 use reference::semantics::{first_broken, selected};
 use tools::call::{Answerer, Call, Entry};
 
@@ -93,14 +94,14 @@ fn check_open(call: &Call, seen: &Outcome) -> Result<(), String> {
     check_separates(call, &seen.words[..length], seen.outs)
 }
 
-/// An accepted record of a legal state of N objects, with the object in the
-/// query and outside the view.
+/// An accepted record of a legal state of N objects, with an object for each mark
+/// that the query uses, and with the object in the query and outside the view.
 fn check_separates(call: &Call, record: &[u16], [objects, object]: [u64; 2]) -> Result<(), String> {
     let refused = |number| format!("the triple is refused as {number}");
     let schema = records::schema(&call.schema).map_err(refused)?;
-    let query = records::concept(&call.query, &schema, QUERY_STEPS).map_err(refused)?;
-    let view = records::concept(&call.view, &schema, VIEW_STEPS).map_err(refused)?;
-    let state = records::state(record, &schema)
+    let query = records::concept(&call.query, &schema, Place::Query).map_err(refused)?;
+    let view = records::concept(&call.view, &schema, Place::View).map_err(refused)?;
+    let state = records::state(record, &schema, &used(&query))
         .map_err(|number| format!("the written state is refused as {number}"))?;
     if state.objects as u64 != objects {
         return Err(format!("N is {objects} and not {}", state.objects));
@@ -109,8 +110,8 @@ fn check_separates(call: &Call, record: &[u16], [objects, object]: [u64; 2]) -> 
         return Err(format!("the written state breaks axiom {place}"));
     }
     let is_in = |concept| {
-        let marks = selected(&state, concept);
-        usize::try_from(object).is_ok_and(|object| marks.get(object) == Some(&true))
+        let selected = selected(&state, concept);
+        usize::try_from(object).is_ok_and(|object| selected.get(object) == Some(&true))
     };
     if !is_in(&query) {
         return Err(format!("object {object} is not in the query"));

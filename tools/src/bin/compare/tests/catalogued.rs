@@ -3,7 +3,7 @@
 use super::spoilt::{Answer, Spoilt};
 use super::{catalogue_difference, damage_difference};
 use bikuvoa::layout::{self, MAX_VIEWS};
-use reference::records::{self, VIEW_STEPS};
+use reference::records::{self, Place};
 use tools::call::Entry;
 
 type Spoil = fn(&mut Answer);
@@ -40,7 +40,7 @@ impl Answer<'_> {
         let Ok(schema) = records::schema(&self.call.schema) else {
             return Vec::new();
         };
-        let refusal = |view: &&[u16]| records::concept(view, &schema, VIEW_STEPS).err();
+        let refusal = |view: &&[u16]| records::concept(view, &schema, Place::View).err();
         let refusals = views.iter().map(refusal);
         refusals.map(|refusal| refusal.unwrap_or(0)).collect()
     }
@@ -376,8 +376,7 @@ fn views_with_the_steps_of_a_query() {
         let schema = records::schema(&answer.call.schema);
         let views = layout::views(&answer.call.catalogue);
         if let (6, Ok(schema), Some(views)) = (answer.number, schema, views) {
-            let accepts =
-                |view: &&[u16]| records::concept(view, &schema, records::QUERY_STEPS).is_ok();
+            let accepts = |view: &&[u16]| records::concept(view, &schema, Place::Concept).is_ok();
             if views.iter().all(accepts) {
                 answer.number = 0;
             }

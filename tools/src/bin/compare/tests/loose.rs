@@ -1,5 +1,5 @@
-//! Wrong answers about loose constants: marks misread, and refused at another time
-//! or not at all.
+//! Wrong answers about loose constants: the word that has them misread, and refused
+//! at another time or not at all.
 
 use super::misread::Misread;
 use super::spoilt::{Answer, Spoilt};
@@ -52,10 +52,10 @@ fn every_constant_loose() {
 }
 
 #[test]
-fn marks_from_the_last_constant_to_the_first() {
+fn loose_from_the_last_constant_to_the_first() {
     let wrong = misread(|declared| {
-        let marks = (0..declared.constants).map(|constant| declared.is_loose(constant));
-        let loose = marks.fold(0, |word, mark| word << 1 | u16::from(mark));
+        let bits = (0..declared.constants).map(|constant| declared.is_loose(constant));
+        let loose = bits.fold(0, |word, bit| word << 1 | u16::from(bit));
         Signature { loose, ..declared }
     });
     triple_difference(&wrong);
@@ -110,13 +110,13 @@ fn constants_that_share_an_object_always_accepted() {
 }
 
 #[test]
-fn marks_refused_after_axioms() {
+fn loose_refused_after_axioms() {
     let found = damage_difference(&Spoilt(|answer| {
-        let unmarked = answer.schema_refusal(|declared| Signature {
+        let without = answer.schema_refusal(|declared| Signature {
             loose: 0,
             ..declared
         });
-        if answer.number == 14 && unmarked == 2 {
+        if answer.number == 14 && without == 2 {
             answer.number = 2;
         }
     }));
@@ -124,20 +124,20 @@ fn marks_refused_after_axioms() {
 }
 
 #[test]
-fn marks_refused_before_the_shape() {
+fn loose_refused_before_the_shape() {
     let found = damage_difference(&Spoilt(|answer| {
         let declared = Signature::of(&answer.call.schema).unwrap_or_default();
         let undeclared = declared.loose.checked_shr(declared.constants.into());
-        if answer.number == 1 && undeclared.is_some_and(|marks| marks > 0) {
+        if answer.number == 1 && undeclared.is_some_and(|bits| bits > 0) {
             answer.number = 14;
         }
     }));
     assert_eq!(found.fault, "returned 14 and not 1");
 }
 
-/// Marks of constants that cannot be declared, taken as harmless.
+/// Bits of constants that cannot be declared, taken as harmless.
 #[test]
-fn the_highest_marks_accepted() {
+fn the_highest_bits_accepted() {
     let found = damage_difference(&Spoilt(|answer| {
         if answer.number == 14 {
             answer.number = answer.schema_refusal(|declared| Signature {
@@ -149,9 +149,9 @@ fn the_highest_marks_accepted() {
     assert!(found.fault.ends_with(" and not 14"), "{}", found.fault);
 }
 
-/// Marks of constants that could be declared and are not, taken as harmless.
+/// Bits of constants that could be declared and are not, taken as harmless.
 #[test]
-fn the_lowest_marks_accepted() {
+fn the_lowest_bits_accepted() {
     let found = damage_difference(&Spoilt(|answer| {
         if answer.number == 14 {
             answer.number = answer.schema_refusal(|declared| Signature {

@@ -2,7 +2,7 @@
 //! the inputs must be such that this matters.
 
 use super::{catalogue_difference, name_difference, state_difference, triple_difference};
-use bikuvoa::layout::token::{BACKWARD, CLASS, CONSTANT, EVERYTHING, FORWARD};
+use bikuvoa::layout::token::{BACKWARD, CLASS, CONSTANT, EVERYTHING, FORWARD, MARK};
 use bikuvoa::layout::{self, axiom, Pair, CONCEPT, SCHEMA};
 use tools::call::{Answerer, Call, Entry};
 use tools::proved::Proved;
@@ -45,11 +45,11 @@ fn without_kind(call: &mut Call, kind: u16) {
     keep_axioms(call, |_, axiom| axiom::kind(axiom) != kind);
 }
 
-fn alter_tokens(call: &mut Call, alter: fn(Pair) -> Pair) {
+pub fn alter_tokens(call: &mut Call, alter: fn(Pair) -> Pair) {
     for words in [&mut call.query, &mut call.view] {
         if let Some(tokens) = CONCEPT.entries(words) {
             let tokens: Vec<Pair> = tokens.map(alter).collect();
-            *words = layout::concept(&tokens);
+            *words = CONCEPT.record(words, &tokens);
         }
     }
 }
@@ -109,7 +109,7 @@ fn constants_taken_for_everything() {
     });
 }
 
-/// Either of the two checks must be found if it reads tokens as others.
+/// Each of the checks must be found if it reads tokens as others.
 fn assert_misnaming_found(alter: fn(Pair) -> Pair) {
     for entry in Entry::CHECKS {
         name_difference(&Misread(|call| {
@@ -145,6 +145,16 @@ fn constants_taken_for_classes() {
 }
 
 #[test]
+fn marks_taken_for_classes() {
+    name_difference(&Misread(|call| {
+        alter_tokens(call, |token| match token {
+            (MARK, number) => (CLASS, number),
+            token => token,
+        });
+    }));
+}
+
+#[test]
 fn every_attribute_taken_for_the_first() {
     assert_misnaming_found(|token| match token {
         (sort @ (FORWARD | BACKWARD), _) => (sort, 0),
@@ -173,6 +183,30 @@ fn a_query_taken_for_a_view() {
         }
     }));
     assert_eq!(found.fault, "returned 6 and not 0");
+}
+
+#[test]
+fn marks_where_there_may_be_none_and_none_where_there_may() {
+    let checks = [
+        (
+            Entry::CheckConcept,
+            Entry::CheckQuery,
+            "returned 0 and not 4",
+        ),
+        (
+            Entry::CheckQuery,
+            Entry::CheckConcept,
+            "returned 4 and not 0",
+        ),
+    ];
+    for (entry, taken_for, fault) in checks {
+        let found = name_difference(&Misread(|call| {
+            if call.entry == entry {
+                call.entry = taken_for;
+            }
+        }));
+        assert_eq!(found.fault, fault);
+    }
 }
 
 /// No axiom, or views in another order, must be found of a catalogue.

@@ -58,6 +58,22 @@ fn constants_often_share_an_object() {
     assert!(tally.sharing * 10 > tally.states, "{tally}");
 }
 
+/// About half of the queries have marks, which are often one object. They are held and
+/// open, and counterexamples and not.
+#[test]
+fn marks_are_common() {
+    let tally = triples::run(&Proved, &mut Prng::new(SEED), 4_000).expect("no difference");
+    assert!(is_balanced(tally.marked, tally.triples()), "{tally}");
+    assert!(is_balanced(tally.marked_held, tally.marked), "{tally}");
+    assert!(tally.meeting * 20 > tally.open(), "{tally}");
+    let tally = states::run(&Proved, &mut Prng::new(SEED), 2_000).expect("no difference");
+    assert!(is_balanced(tally.marked, tally.states), "{tally}");
+    assert!(tally.marked_counterexamples * 10 > tally.marked, "{tally}");
+    assert!(tally.meeting * 10 > tally.marked, "{tally}");
+    let tally = names::run(&Proved, &mut Prng::new(SEED), 4_000).expect("no difference");
+    assert!(tally.marked * 10 > tally.concepts, "{tally}");
+}
+
 #[test]
 fn concepts_name_nothing_or_something_or_all() {
     let tally = names::run(&Proved, &mut Prng::new(SEED), 4_000).expect("no difference");
@@ -87,6 +103,6 @@ fn catalogues_have_groups_chains_and_choices() {
 fn every_refusal_comes_up() {
     let tally = damaged::run(&Proved, &mut Prng::new(SEED), 4_000).expect("no difference");
     assert!(tally.numbers.iter().all(|&calls| calls >= 10), "{tally}");
-    // Wrong marks are refused between two others, so they come up often.
+    // Wrong loose bits are refused between two others, so they come up often.
     assert!(tally.numbers[14] * 40 > tally.calls(), "{tally}");
 }

@@ -3,11 +3,11 @@
 use super::spoilt::{Answer, Spoilt};
 use super::triple_difference;
 use super::{catalogue_difference, damage_difference, name_difference, state_difference};
-use crate::schemas::shares;
+use crate::schemas::{meets, shares};
 use crate::shrink::shrink;
 use crate::verify::{verify, Difference};
-use bikuvoa::layout::token::EVERYTHING;
-use bikuvoa::layout::{self, Layout, Signature, CONCEPT, MAX_VIEWS, SCHEMA, STATE};
+use bikuvoa::layout::token::{BOTH, EVERYTHING, MARK};
+use bikuvoa::layout::{self, fact, Layout, Signature, CONCEPT, MAX_VIEWS, SCHEMA, STATE};
 use tools::call::{Call, Entry};
 
 type Spoil = fn(&mut Answer);
@@ -62,6 +62,45 @@ fn of_a_wrong_clash() {
     assert_eq!((signature.constants, signature.loose), (2, 1));
     assert!(entries(&CONCEPT, &call.query) <= 10, "{:?}", call.query);
     assert!(entries(&CONCEPT, &call.view) <= 6, "{:?}", call.view);
+}
+
+/// Takes different marks as different objects.
+#[test]
+fn of_a_wrong_mark() {
+    let kept_apart: Spoil = |answer| {
+        if answer.is_open() && meets(answer.lent) {
+            answer.lent.copy_from_slice(&answer.before);
+            answer.outs[0] = 0;
+        }
+    };
+    let found = triple_difference(&Spoilt(kept_apart));
+    let call = smallest(kept_apart, *found);
+    // No axiom, and a query for the two lowest marks at once.
+    assert_eq!(entries(&SCHEMA, &call.schema), 0);
+    let mut tokens: Vec<_> = CONCEPT.entries(&call.query).expect("a query").collect();
+    tokens.sort_unstable();
+    assert_eq!(tokens, [BOTH, (MARK, 0), (MARK, 1)]);
+    assert!(entries(&CONCEPT, &call.view) <= 4, "{:?}", call.view);
+}
+
+/// Finds no counterexample where a mark is used.
+#[test]
+fn of_a_wrong_choice() {
+    let never_found: Spoil = |answer| {
+        let facts = STATE.entries(&answer.call.state).into_iter().flatten();
+        let mut facts = facts.filter(|&entry| fact::kind(entry) >= fact::MARK_KINDS);
+        if answer.is_of(Entry::Counterexample) && facts.next().is_some() {
+            answer.outs[0] = 0;
+        }
+    };
+    let found = state_difference(&Spoilt(never_found));
+    let call = smallest(never_found, *found);
+    // No axiom, the lowest mark, and its object alone beside the names.
+    let signature = Signature::of(&call.schema).expect("a schema");
+    assert_eq!(entries(&SCHEMA, &call.schema), 0);
+    assert_eq!(call.query, layout::concept(&[(MARK, 0)]));
+    let names = usize::from(signature.constants);
+    assert_eq!(entries(&STATE, &call.state), names + 1);
 }
 
 #[test]
@@ -154,9 +193,10 @@ fn of_a_wrong_refusal() {
     };
     let found = damage_difference(&Spoilt(nine_for_ten));
     let call = smallest(nine_for_ten, *found);
-    // One constant, no axiom, and no object.
+    // One constant or one mark, no axiom, and no object.
     let signature = Signature::of(&call.schema).expect("a schema");
-    assert_eq!(signature.constants, 1);
+    let is_marked = call.query == layout::concept(&[(MARK, 0)]);
+    assert_eq!(signature.constants + u16::from(is_marked), 1);
     assert_eq!(entries(&SCHEMA, &call.schema), 0);
     assert_eq!(call.state, layout::state(0, &[]));
 }

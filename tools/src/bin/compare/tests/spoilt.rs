@@ -56,7 +56,7 @@ impl<F: Fn(&mut Answer)> Answerer for Spoilt<F> {
 
 impl Answer<'_> {
     /// Whether decide has written a state.
-    fn is_open(&self) -> bool {
+    pub fn is_open(&self) -> bool {
         self.is_of(Entry::Decide) && self.outs[0] > 0
     }
 
@@ -66,7 +66,7 @@ impl Answer<'_> {
     }
 
     /// How many words the written state has.
-    fn written(&self) -> usize {
+    pub fn written(&self) -> usize {
         STATE.length(self.lent).expect("a written state")
     }
 
@@ -103,12 +103,12 @@ impl Answer<'_> {
     }
 
     /// Which objects the call's concept selects.
-    fn marks(&self) -> Vec<bool> {
-        let mut marks = vec![0; MAX_OBJECTS.into()];
+    fn selected(&self) -> Vec<bool> {
+        let mut lent = vec![0; MAX_OBJECTS.into()];
         let mut select = self.call.clone();
         select.entry = Entry::Select;
-        Proved.answer(&select, &mut marks, &mut [], &mut [0; 2], &mut [0; 2]);
-        marks.iter().map(|&mark| mark == 1).collect()
+        Proved.answer(&select, &mut lent, &mut [], &mut [0; 2], &mut [0; 2]);
+        lent.iter().map(|&word| word == 1).collect()
     }
 }
 
@@ -239,7 +239,7 @@ fn an_invented_count() {
 }
 
 #[test]
-fn marks_left_as_they_were() {
+fn lent_words_left_as_they_were() {
     state_difference(&Spoilt(|answer| {
         if answer.entry == Entry::Select {
             answer.lent.copy_from_slice(&answer.before);
@@ -248,7 +248,7 @@ fn marks_left_as_they_were() {
 }
 
 #[test]
-fn a_word_after_the_marks() {
+fn a_word_after_those_of_the_objects() {
     state_difference(&Spoilt(|answer| {
         if answer.entry == Entry::Select {
             answer.lent[answer.objects..].fill(0);
@@ -311,14 +311,14 @@ fn pairs_whatever_their_first_object() {
 
 #[test]
 fn selected_objects_for_links() {
-    assert_miscount_found(|answer| answer.marks().iter().filter(|&&mark| mark).count());
+    assert_miscount_found(|answer| answer.selected().iter().filter(|&&inside| inside).count());
 }
 
 #[test]
 fn different_values_for_links() {
     assert_miscount_found(|answer| {
-        let (marks, pairs) = (answer.marks(), answer.pairs());
-        let links = pairs.iter().filter(|&&(first, _)| marks[first]);
+        let (selected, pairs) = (answer.selected(), answer.pairs());
+        let links = pairs.iter().filter(|&&(first, _)| selected[first]);
         let seconds: BTreeSet<_> = links.map(|(_, second)| second).collect();
         seconds.len()
     });
@@ -327,8 +327,11 @@ fn different_values_for_links() {
 #[test]
 fn pairs_whose_second_object_is_selected() {
     assert_miscount_found(|answer| {
-        let (marks, pairs) = (answer.marks(), answer.pairs());
-        pairs.iter().filter(|&&(_, second)| marks[second]).count()
+        let (selected, pairs) = (answer.selected(), answer.pairs());
+        pairs
+            .iter()
+            .filter(|&&(_, second)| selected[second])
+            .count()
     });
 }
 
@@ -377,7 +380,7 @@ fn a_count_of_a_refused_call() {
     }
 }
 
-/// Either of the two checks must be found if it tells something else.
+/// Each of the checks must be found if it tells something else.
 fn assert_misnaming_found(spoil: fn(&mut Answer)) {
     for entry in Entry::CHECKS {
         let found = name_difference(&Spoilt(|answer| {
