@@ -10,14 +10,14 @@ import sys
 import triples
 import words
 from program import PROGRAM, judged, run
-from triples import CLUB, RECORDED, ROOT, ROWERS
+from triples import ATTENDED_BEATS, CLUB, RECORDED, ROOT, ROWERS, STROKE_BEATS, STROKED
 
 PAGE = (ROOT / "docs" / "RECORDS.md").read_text()
 README = (ROOT / "README.md").read_text()
 HEADER = (ROOT / "include" / "bikuvoa.h").read_text()
 SOURCE = {name: "".join((ROOT / "crates" / path).read_text() for path in paths.split()) for name, paths in {
     "schema": "records/src/schema.rt", "state": "records/src/state.rt",
-    "concept": "records/src/token.rt records/src/sorts.rt records/src/concept.rt",
+    "concept": "records/src/token.rt records/src/sorts.rt records/src/marks.rt records/src/concept.rt",
     "named": "records/src/named.rt", "check": "records/src/check.rt",
     "select": "judge/src/select.rt", "legal": "judge/src/legal.rt", "counterexample": "judge/src/counterexample.rt",
     "links": "judge/src/links.rt", "decide": "decide/src/lib.rt", "holds": "decide/src/holds.rt",
@@ -55,10 +55,9 @@ def evaluated(definitions):
     return known
 
 
-STEPS = re.findall(r"impl (\w+) \{\s*pub const STEPS: usize = (\d+);", SOURCE["concept"])
-CODE = evaluated([
-    *((f"{role.upper()}_STEPS", "", n) for role, n in STEPS),
-    *((name, "", text) for name, text in re.findall(r"const (\w+): usize = ([^;]+);", "".join(SOURCE.values())))])
+# The roles of concepts: the most steps, and the set of marks.
+ROLES = re.findall(r"impl (\w+) \{\s*pub const STEPS: usize = (\d+);\s*pub const MARKS: u32 = (\d+);", SOURCE["concept"])
+CODE = evaluated([(name, "", text) for name, text in re.findall(r"^(?:pub )?const (\w+): usize = ([^;]+);", "".join(SOURCE.values()), re.M)])
 C = evaluated([
     *re.findall(r"#define (\w+)(?:\((\w+)\))? (.+)", HEADER.replace("BIKUVOA_", "")),
     *((name, "", n) for name, n in re.findall(r"BIKUVOA_(\w+) = (\d+)", HEADER))])
@@ -93,12 +92,20 @@ def shapes(rows):
             hold(f"{record}, place of {name}", place, C[f"AT_{name.upper()}"])
 
 
+def roles(rows):
+    """The places where a concept stands. Marks are numbered without a gap, so the last one tells how many there are."""
+    marks = {place: int(text.split(" to ")[1]) + 1 if " to " in text else 0 for place, _, text in rows}
+    hold("roles", [(place.split()[0].capitalize(), steps, str((1 << marks[place]) - 1)) for place, steps, _ in rows], ROLES)
+    for place, steps, _ in rows:
+        hold(f"steps of a {place} in the header", int(steps), C[f"{place.split()[-1].upper()}_STEPS"])
+    hold("marks", max(marks.values()), CODE["MAX_MARKS"], C["MAX_MARKS"])
+    return {"marks": max(marks.values()), **{f"steps of a {place}": int(steps) for place, steps, _ in rows if place in ("query", "view")}}
+
+
 def limits(rows):
-    steps = {f"steps of a {role}": f"{role.upper()}_STEPS" for role in ("query", "view")}
-    names = {name: steps.get(name, f"MAX_{name.upper()}") for name, *_ in rows}
-    hold("limits", {*names.values()}, {name for name in CODE if re.match("MAX_|.*_STEPS", name)})
+    hold("limits", {f"MAX_{name.upper()}" for name, *_ in rows} | {"MAX_MARKS"}, {name for name in CODE if name.startswith("MAX_")})
     for name, least, most in rows:
-        constant = names[name]
+        constant = f"MAX_{name.upper()}"
         hold(f"limit of {name}", number(most), CODE[constant], C[constant])
         checks = {"tokens": ("concept", "bad_shape"), "views": ("catalogue", "bad_layout")}
         hold(f"least {name}", number(least), in_function(*checks[name], r"\(n < (\w+)\)") if name in checks else 0)
@@ -146,8 +153,8 @@ def facts(rows):
         part = "OBJECT_PART" if second == "object" else "BYTE_PART"
         hold(f"{first} · {factor} + {second}", int(factor), CODE[part], C[part])
     hold("axioms in words.py", (3 * CODE["BYTE_PART"] + 7, 5), words.axiom(3, 7, 5))
-    made = {"class": words.member(1, 7), "attribute": words.pair(1, 7, 5), "constant": words.name(1, 7)}
-    starts = ["ATTRIBUTE_KINDS", "CONSTANT_KINDS", "FACT_KINDS"]
+    made = {"class": words.member(1, 7), "attribute": words.pair(1, 7, 5), "constant": words.name(1, 7), "mark": words.choice(1, 7)}
+    starts = ["ATTRIBUTE_KINDS", "CONSTANT_KINDS", "MARK_KINDS", "FACT_KINDS"]
     past = 0
     for start, (kinds, name, text, right) in zip(starts, rows, strict=True):
         first, last = map(int, kinds.split(" to "))
@@ -160,7 +167,7 @@ def facts(rows):
 
 def sets(rows):
     width, = re.findall(r"A set is an unsigned number of (\d+) bits", " ".join(PAGE.split()))
-    hold("sets in the header", [row[0] for row in rows] * 2, re.findall(rf"uint{width}_t \*(\w+)", HEADER))
+    hold("sets in the header", [row[0] for row in rows] * len(ROLES), re.findall(rf"uint{width}_t \*(\w+)", HEADER))
     for (name, bits, naming), made in zip(rows, ("class_of", "attribute_of"), strict=True):
         code = function("named", made)
         hold(f"tokens that name {name}", naming.split(", "), [token.lower() for token in re.findall(r"Token::(\w+)\((?!_)", code)])
@@ -169,10 +176,10 @@ def sets(rows):
 
 
 def looked_at(source, name):
-    """What a function checks, in order, with what it leaves to its file's `check` in that one's place. The check of a query or of a
-    view is that of a concept, with its limit."""
-    found = re.findall(r"(?<!fn )\bcheck(?:\(|_\w+)|\w+::STEPS|lent\.len|attribute_number|Refused\(\d+\)", function(source, name))
-    left = {"check(": (source, "check"), **{f"check_{role}": ("concept", f"check_{role}") for role in ("query", "view")}}
+    """What a function checks, in order, with what it leaves to its file's `check` in that one's place. The check of a concept in some
+    role is that of a concept, with the role's limit and marks."""
+    found = re.findall(r"(?<!fn )\bcheck(?:\(|_\w+)|\w+::STEPS|\w+::MARKS|lent\.len|attribute_number|Refused\(\d+\)", function(source, name))
+    left = {"check(": (source, "check"), **{f"check_{role.lower()}": ("concept", f"check_{role.lower()}") for role, *_ in ROLES}}
     return [look for part in found for look in (looked_at(*left[part]) if part in left else [part])]
 
 
@@ -197,9 +204,9 @@ def refusals(rows, orders, lent):
     least, most, more = map(int, re.search(r"Their refusals are (\d+) to (\d+) and (\d+)", text).groups())
     hold("refusals of a concept by itself", [*range(least, most + 1), more], sorted(page["schema"] + page["concept"]))
     looks = {"lent words": ["lent.len", *(f"Refused({n})" for n in page["lent words"])], "attribute": ["attribute_number"],
-             **{role: looked_at("concept", f"check_{role}") for role in ("query", "view")}}
+             **{place: looked_at("concept", f"check_{place.split()[0]}") for place in ("plain query", "query", "view")}}
     for entry, text in orders:
-        source, _, name = {"check_concept": "check_query", "catalogue": "catalogue_refusal"}.get(entry, entry).partition("_")
+        source, _, name = {"check_concept": "check_plain", "catalogue": "catalogue_refusal"}.get(entry, entry).partition("_")
         # Of a catalogue only the entry for C is lent words.
         parts = text.removesuffix(", lent words" if entry == "catalogue" else "").split(", ")
         hold(f"checks of {entry}", [look for part in parts for look in looks.get(part, [f"check_{part}"])],
@@ -262,7 +269,7 @@ class Names:
         return f"a {self.classes[a]} {self.verb(right)} {'something' if kind == C['NECESSARY'] else 'at most one thing'}"
 
     def token(self, sorts, sort, argument):
-        named = {"class": self.classes, "forward": self.attributes, "backward": self.attributes}.get(sorts[sort])
+        named = {"class": self.classes, "forward": self.attributes, "backward": self.attributes, "mark": "0123"}.get(sorts[sort])
         return f"{sorts[sort]} {named[argument]}" if named else sorts[sort]
 
     def fact(self, left, right):
@@ -322,6 +329,22 @@ def catalogue(rows, groups, names, sorts):
             hold(f"by which view {i} is held", held_by[i], [j for j, lines in enumerate(verdicts) if lines == ["HELD"]])
 
 
+def stroke(names, sorts):
+    """The query with marks, its schema's further attribute, and the fact of a mark."""
+    text = " ".join(PAGE.split())
+    attribute, name, first, last = re.search(r"a further attribute, (\d+) ([a-z ]+), which goes from a (\w+) to a (\w+)", text).groups()
+    sizes, axioms = split(stored("stroke/schema"), "schema")
+    club, before = split(stored("schema"), "schema")
+    hold("further attribute", (int(attribute), axioms[:-1]), (club[C["AT_ATTRIBUTES"]], before), (sizes[C["AT_ATTRIBUTES"]] - 1, before))
+    names.attributes.append(name)
+    hold("further axiom", f"{name} goes from a {first} to a {last}", names.axiom(*axioms[-1]))
+    spelled_out, = re.findall(r"mark 0: `([^`]+)`", text)
+    _, entries = split(stored("stroke/query"), "concept")
+    hold("tokens of stroke/query.bin", spelled_out.split(", "), [names.token(sorts, *entry) for entry in entries])
+    kind, part, x, left = map(int, re.search(r"mark 0 is (\d+) · (\d+) \+ (\d+) = (\d+)", text).groups())
+    hold("fact of a mark", (kind * part + x, 0), (left, 0), words.choice(0, x))
+
+
 def example(schema, query, view, state, sorts, naming, shown, views, groups):
     record, meanings = spelled(schema, CODE["BYTE_PART"])
     names = Names(*meanings[:2])
@@ -339,6 +362,7 @@ def example(schema, query, view, state, sorts, naming, shown, views, groups):
     record, meanings = spelled(state, CODE["OBJECT_PART"])
     sizes, entries = split(record, "state")
     hold("meaning of the state", meanings[len(sizes):], [names.fact(*entry) for entry in entries])
+    stroke(names, sorts)
     return axioms, sizes, entries
 
 
@@ -358,16 +382,20 @@ def readme(axioms, sizes, entries, most, least):
         hold(f"README.md says {said}", bool(re.search(rf"(?<![\d,]){said}\b", text)), True)
     hold("README.md, stack", re.findall(r"give each thread (\d+) KB", text), [str(C["STACK_BYTES"] >> 10)])
     hold("README.md, lent words", re.findall(r"([\d,]+) words \(([\d,]+) bytes\)", text), [(f"{least:,}", f"{2 * least:,}")])
-    printed = [line.strip() for line in re.search(r"^    OPEN.*\n(?:    \d+ \d+\n)+", README, re.M).group().splitlines()]
+    printed, marked = ([line.strip() for line in block.splitlines()]
+                       for block in re.findall(r"^    OPEN.*\n(?:    \d+ \d+\n)+", README, re.M))
     hold("README.md, the state", printed[1:], [f"{left} {right}" for left, right in entries])
     hold("sizes of the state", (sizes[C["AT_OBJECTS"]], sizes[C["AT_FACTS"]]), (number(printed[0].split()[1]), len(entries)))
     told = re.findall(r"a state of (\d+) objects in which object (\d+)", text)
     hold("README.md, what it says of the state", told, [tuple(printed[0].split()[1:])])
     judged(printed, CLUB, RECORDED, ROWERS)
+    judged(marked, STROKED, STROKE_BEATS, ATTENDED_BEATS)
     if PROGRAM.exists():
         every = range(len(axioms))
         enough = [int(n) for n in re.findall(r"\d+", re.search(r"Axioms ([\d, and]+) are enough", text).group(1))]
         hold("README.md, what is printed", printed, decided(every, RECORDED, ROWERS))
+        for folder, lines in (("stroke", ["HELD"]), ("stroke/attended", marked)):
+            hold(f"README.md, {folder}", lines, run({f"{name}.bin": words.words(stored(f"{folder}/{name}")) for name in ("schema", "query", "view")}))
         hold("README.md, enough axioms", ["HELD"], decided(enough, ROWERS, RECORDED))
         for i in enough:
             hold(f"README.md, without axiom {i}", "OPEN", decided([j for j in every if j != i], ROWERS, RECORDED)[0].split()[0])
@@ -376,7 +404,7 @@ def readme(axioms, sizes, entries, most, least):
 def main():
     page = tables()
     shapes(*page["record, size words, in this order"])
-    most = limits(*page["size, least"])
+    most = {**limits(*page["size, least"]), **roles(*page["place, most steps"])}
     numbered(*page["kind, name"], "schema", "axiom_of", "faulty_axiom", "kind")
     sorts = numbered(*page["sort, name"], "concept", "token_of", "faulty_token", "sort")
     tokens(*page["sort, name"])
