@@ -62,10 +62,10 @@ fn ask(schema: &[u16], catalogue: &[u16], rows: &[u16], opens: &[u16], i: usize,
 fn settle(
     schema: &[u16],
     catalogue: &[u16],
-    rows: &mut [u16],
-    opens: &mut [u16],
     i: usize,
     j: usize,
+    rows: &mut [u16],
+    opens: &mut [u16],
 )
     requires { ⌜ Known (now schema) (now catalogue) (now rows) (now opens) × (i < viewsIn (now catalogue)) × (j < viewsIn (now catalogue)) ⌝ }
     ensures grown { λ _. ⌜ Grown (now (schema .entry)) (now (catalogue .entry)) (now (rows .entry)) (now (opens .entry)) (now (rows .exit)) (now (opens .exit)) ⌝ }
@@ -89,8 +89,8 @@ fn compare(schema: &[u16], catalogue: &[u16], rows: &mut [u16], opens: &mut [u16
 {
     for k in 0..j {
         let i = j - 1 - k;
-        settle(schema, catalogue, rows, opens, i, j);
-        settle(schema, catalogue, rows, opens, j, i);
+        settle(schema, catalogue, i, j, rows, opens);
+        settle(schema, catalogue, j, i, rows, opens);
     }
 }
 
