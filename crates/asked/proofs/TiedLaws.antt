@@ -13,7 +13,7 @@ use Rattle.chase.specs.Bounds.{maxNodes}
 use Rattle.chase.specs.Facts.{Equation}
 use Rattle.chase.specs.Task.{nodes, anchor, markNode, tie, ties, taskOf}
 use Rattle.chase.proofs.AcceptanceLaws.{accepted-formed}
-use Rattle.chase.proofs.PrimaryLaws.{within}
+use Rattle.chase.proofs.AskedLaws.{within}
 use Rattle.chase.proofs.FactsLaws.{OnSide}
 use Rattle.primary.specs.Asked.{queryTask}
 use Rattle.primary.specs.Words.{part, tieOf}

@@ -13,7 +13,7 @@ use Rattle.chase.specs.Bounds.{mostFacts}
 use Rattle.chase.specs.Candidate.{objects}
 use Rattle.chase.specs.Written.{nameFact, objectFacts}
 use Rattle.chase.proofs.GatherLaws.{gather-bound}
-use Rattle.chase.proofs.WrittenLaws.{object-facts-few}
+use Rattle.chase.proofs.RowLaws.{object-facts-few}
 use Rattle.primary.specs.Words.{edgeOf}
 use Rattle.ground.specs.Numbers.{objectIn}
 use Rattle.ground.specs.Objects.{groundIn, forestIn}

@@ -36,7 +36,8 @@ use Rattle.chase.proofs.Consequence.{Follows, fitting}
 use Rattle.chase.proofs.Extension.{Made}
 use Rattle.chase.proofs.Done.{Done, opened, held}
 use Rattle.chase.proofs.PrimeLaws.{Ok}
-use Rattle.chase.proofs.PrimaryLaws.{within, Closed, primary-ok, primary-closed}
+use Rattle.chase.proofs.AskedLaws.{within}
+use Rattle.chase.proofs.PrimaryLaws.{Closed, primary-ok, primary-closed}
 use Rattle.chase.proofs.GroundLaws.{Grounded, nodeOf, object-inside, object-set, object-rep, rep-object, grounded}
 use Rattle.chase.proofs.ForestLaws.{Grown, ground-size, kid-inside, kid-before, child}
 use Rattle.chase.proofs.WalkLaws.{Cov, walks-cover}

@@ -2,22 +2,20 @@
 -- a state which is alike (list-alike), if the state and the list are within the limits of records.
 use Prim.Native.Nat.{ℕ, suc, _+_, _-_, _≤_, _<_}
 use native.Mathlib.Omega.{arith}
-use native.Mathlib.Decide.{decLt}
-use mathlib.Core.Bool.{Bool, true, false, So, not, _&&_, _||_}
+use mathlib.Core.Bool.{Bool, true, false, So, not, _&&_}
 use mathlib.Core.List.{List}
 use mathlib.Core.Path.{_≡_, refl, sym, ap, subst, subst₂, _∙_}
-use lib.Dec.{eqb, ltb}
+use lib.Dec.{eqb}
 use lib.ListN.{length, getD}
 use borrow.Author.Tests.{eq-eqb, eqb-true, lt-ltb, le-ltb, le-leb, lt-leb}
 use Rattle.records.specs.declared.schema.Signature.{Signature}
 use Rattle.records.specs.Finite.{any, count}
-use Rattle.records.specs.Layout.{stateLayout, entries, maxClasses, maxAttributes, maxConstants, maxMarks, maxObjects, maxFacts, objectPart, wordPart, attributeKinds, constantKinds, markKinds}
+use Rattle.records.specs.Layout.{stateLayout, entries, maxClasses, maxAttributes, maxConstants, maxMarks, maxObjects, maxFacts, attributeKinds, constantKinds, markKinds}
 use Rattle.records.specs.Marks.{allows}
 use Rattle.records.specs.State.{State, Member, Related, Names}
 use Rattle.records.specs.StateRecord.{objects, kindAt, objectAt, stateOf}
-use Rattle.records.specs.StateRefusal.{declaresKind, suitsKind, faultyFact, ascends, descends, namesAt, misnames, marksAt, mismarks, refusal-7, refusal-8, refusal-9, refusal-10, AcceptedState}
-use Rattle.records.specs.Encoding.{fact, leftWord, rightWord, stateRecord}
-use Rattle.records.proofs.General.BoolLaws.{and-both, or-left, or-right}
+use Rattle.records.specs.StateRefusal.{faultyFact, ascends, descends, namesAt, misnames, marksAt, mismarks, refusal-7, refusal-8, refusal-9, refusal-10, AcceptedState}
+use Rattle.records.specs.Encoding.{fact, rightWord, stateRecord}
 use Rattle.records.proofs.EncodingLaws.{kindOf, objectIn, fact-parts, state-objects, state-facts, state-left, state-right, state-kind, state-object, state-shaped}
 use Rattle.records.proofs.General.FiniteLaws.{none-any, count-same}
 use Rattle.records.proofs.NamesLaws.{repeats-none}
@@ -29,15 +27,8 @@ use Rattle.records.proofs.General.ListLaws.{at-mem, mem-at}
 use Rattle.records.proofs.General.CountLaws.{count-once}
 use Rattle.records.proofs.General.Ascending.{Ascends, ascends-at, ascends-same}
 use Rattle.chase.proofs.Alike.{Alike}
+use Rattle.chase.proofs.FactOf.{FactOf, ofClass, ofPair, ofName, ofMark, word-order, Sound, sound-of}
 use Rattle.chase.proofs.RecordLaws.{record-says, record-says-pair}
-
--- the facts of a state, of what is declared and of the allowed marks
-pub data FactOf (s : Signature) (I : State) : ℕ → Type 0 where
-  ofClass : (A d : ℕ) → A < s .classes → d < I .size → Member I A d → FactOf s I (fact A d 0)
-  ofPair : (P d e : ℕ) → P < s .attributes → d < I .size → e < I .size → Related I P d e
-      → FactOf s I (fact (attributeKinds + P) d e)
-  ofName : (a : ℕ) → a < s .constants → FactOf s I (nameFact a (I .names a))
-  ofMark : (k : ℕ) → So (allows s k) → FactOf s I (markFact k (I .marks k))
 
 -- the list has just these, in order
 pub record Lists (s : Signature) (I : State) (l : List ℕ) : Type 0 where
@@ -52,32 +43,6 @@ pub record Limited (s : Signature) (I : State) (l : List ℕ) : Type 0 where
   pub constants : s .constants ≤ maxConstants
   pub objects : I .size ≤ maxObjects
   pub facts : length l ≤ maxFacts
-
--- facts ascend as numbers as their words do, left before right
-word-order : (f g : ℕ) → f < g → So (ltb (leftWord f) (leftWord g) || eqb (leftWord f) (leftWord g) && ltb (rightWord f) (rightWord g))
-word-order f g h =
-    elim (decLt (leftWord f) (leftWord g)) [
-      | yes y ↦ or-left (ltb (leftWord f) (leftWord g)) _ (lt-ltb (leftWord f) (leftWord g) y)
-      | no n ↦
-          or-right (ltb (leftWord f) (leftWord g)) _
-          (and-both _ _ (eq-eqb (leftWord f) (leftWord g) (omega arith)) (lt-ltb (rightWord f) (rightWord g) (omega arith)))
-    ]
-
--- what the check of a record asks of a fact
-record Sound (s : Signature) (n f : ℕ) : Type 0 where
-  kind : So (declaresKind s (kindOf f))
-  object : objectIn f < n
-  right : So (suitsKind n (kindOf f) (rightWord f))
-
-sound-of : (s : Signature) (n k d r : ℕ) → d < objectPart → r < wordPart → So (declaresKind s k) → d < n → So (suitsKind n k r)
-    → Sound s n (fact k d r)
-sound-of s n k d r h j kind object right =
-    let (p, q, u) = fact-parts k d r h j in
-    record {
-      kind = subst (λ (x : ℕ). So (declaresKind s x)) (sym p) kind;
-      object = omega arith;
-      right = subst₂ (λ (x y : ℕ). So (suitsKind n x y)) (sym p) (sym u) right;
-    }
 
 module _ (s : Signature) (I : State) (l : List ℕ) (limits : Limited s I l) (names : Names s I)
     (marks : (k : ℕ) → So (allows s k) → I .marks k < I .size) (lists : Lists s I l) where

@@ -21,7 +21,8 @@ use Rattle.chase.proofs.Consequence.{Follows}
 use Rattle.records.proofs.General.CountLaws.{count-lt, pick, pick-is, count-injective}
 use Rattle.chase.proofs.ListingLaws.{listing-at}
 use Rattle.chase.proofs.PrimeLaws.{Ok, set-small, set-sound}
-use Rattle.chase.proofs.PrimaryLaws.{mark-inside, Is-edge, are-edges, Closed}
+use Rattle.chase.proofs.AskedLaws.{mark-inside, Is-edge, are-edges}
+use Rattle.chase.proofs.PrimaryLaws.{Closed}
 
 pub record Grounded (t : Task) (G : Ground) (node : ℕ → ℕ) : Type 0 where
   -- in order and closed

@@ -17,6 +17,7 @@ pub mod ClassSetLaws
 pub mod AxiomLaws
 pub mod ClosureLaws
 pub mod TieLaws
+pub mod AskedLaws
 pub mod PrimeLaws
 pub mod PrimaryLaws
 pub mod GroundLaws
@@ -36,7 +37,9 @@ pub mod PairLaws
 pub mod GatherLaws
 pub mod Alike
 pub mod RecordLaws
+pub mod FactOf
 pub mod FactList
+pub mod RowLaws
 pub mod WrittenLaws
 pub mod Judged
 -- Worked examples.

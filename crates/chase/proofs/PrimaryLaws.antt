@@ -2,123 +2,40 @@
 -- Each rule grows, since its fact follows from the query; so does the pass, and at its fixed point every rule is at rest.
 use Prim.Native.Nat.{ℕ, zero, suc, _^_, _<_}
 use native.Mathlib.Omega.{arith}
-use mathlib.Core.Bool.{Bool, So, cond, _&&_, false≢true}
+use mathlib.Core.Bool.{Bool, So, cond, _&&_}
 use mathlib.Core.Logic.{_⊎_, inl}
 use mathlib.Core.Path.{_≡_, refl, sym, ap, subst, subst₂, _∙_}
-use mathlib.Core.List.{List, [], _∷_}
+use mathlib.Core.List.{List}
 use lib.Dec.{eqb}
 use lib.ListN.{getD, replicate, length-replicate, getD-replicate}
 use lib.Pow.{pow-pos}
-use borrow.Author.Tests.{eqb-true, eq-eqb}
-use Rattle.records.specs.State.{State, Member, Related}
-use Rattle.records.specs.Helpers.Steps.{conceptSteps}
+use borrow.Author.Tests.{eqb-true}
+use Rattle.records.specs.State.{Member, Related}
 use Rattle.chase.specs.Loops.{each}
 use Rattle.chase.specs.ClassSet.{place, has}
 use Rattle.chase.specs.Axioms.{domain, values, isSingle, raise}
-use Rattle.chase.specs.Facts.{Membership, Side, atNode, ofMark, Equation, Edge}
-use Rattle.chase.specs.Task.{Task, WellFormed, signature, nodes, startNode, asked, stands, markNode, Tie, tie, ties}
+use Rattle.chase.specs.Facts.{Membership, Edge}
+use Rattle.chase.specs.Task.{Task, WellFormed, signature, nodes, asked, Tie, ties}
 use Rattle.chase.specs.Primary.{Prime, repOf, setOf, merge, equate, assert, lift, typeOrigin, typeTarget, rival, unify, equateAll, assertAll, liftAll, typeAll, unifyAll, pass, weight, numbersFrom, begin, bound, settled, primary}
 use Rattle.records.proofs.General.BoolLaws.{cond-elim, and-parts}
-use Rattle.records.proofs.General.AllLaws.{All, all-map, all-zip, all-mapped}
+use Rattle.records.proofs.General.AllLaws.{All, all-map, all-zip}
 use Rattle.chase.proofs.LoopLaws.{Grows, then-grows, then-fixed, each-grows, each-fixed, upto-grows, upto-fixed, settle-ok, settle-fixed, settle-next, settle-stop}
 use Rattle.chase.proofs.ClassSetLaws.{place-has, place-only, place-below, has-none, has-absorbed}
 use Rattle.chase.proofs.AxiomLaws.{domain-small, values-small}
 use Rattle.chase.proofs.ClosureLaws.{domain-sound, values-sound, single-sound, raise-forced, raise-fixed}
-use Rattle.chase.proofs.FactsLaws.{AllFacts, OnSide, Within, facts-within, sideObject}
 use Rattle.chase.proofs.Consequence.{Follows}
 use Rattle.chase.proofs.ListLaws.{numbers-length, numbers-at}
-use Rattle.chase.proofs.TieLaws.{anchor-is, anchor-all}
+use Rattle.chase.proofs.AskedLaws.{Is-tie, are-ties, Is-member, are-members, Is-edge, are-edges}
 use Rattle.chase.proofs.PrimeLaws.{Ok, set-small, set-sound, add-grows, add-fixed, merge-grows, merge-fixed, weight-bound}
 
--- what each entry has under every fitting assignment, each entry has
-all-follow : {A : Type 0} (t : Task) (X : State → (ℕ → ℕ) → A → Type 0) (l : List A) → (Follows t λ I g. All (X I g) l)
-    → All (λ a. Follows t λ I g. X I g a) l
-all-follow t X [] h = tt
-all-follow t X (a ∷ l) h = (λ I g fits. h I g fits .0, all-follow t X l (λ I g fits. h I g fits .1))
-
 module _ (t : Task) (formed : WellFormed t) where
-  pub within : Within (t .schema .signature .classes) (λ n. n < nodes t) (asked t)
-  unfolding asked
-  within =
-      facts-within (signature t) (suc (conceptSteps (t .query))) (λ n. n < nodes t) (λ a h. omega arith) (t .query)
-      (conceptSteps (t .query)) zero
-      (formed .query) (omega arith) (λ j h k. omega arith)
-
-  follow : AllFacts (λ f. Follows t λ I g. Member I (f .class) (g (f .node)))
-      (λ f. Follows t λ I g. g (f .left) ≡ sideObject I g (f .right))
-      (λ f. Follows t λ I g. Related I (f .attribute) (g (f .origin)) (g (f .target))) (asked t)
-  follow =
-      record {
-        members = all-follow t (λ I g f. Member I (f .class) (g (f .node))) (asked t .members) (λ I g fits. fits .meets .members);
-        equations = all-follow t (λ I g f. g (f .left) ≡ sideObject I g (f .right)) (asked t .equations) (λ I g fits. fits .meets .equations);
-        edges = all-follow t (λ I g f. Related I (f .attribute) (g (f .origin)) (g (f .target))) (asked t .edges)
-            (λ I g fits. fits .meets .edges);
-      }
-
   abbrev Rises : (Prime → Prime) → Type 0
   Rises = Grows weight (Ok t)
 
-  -- the query's facts: of nodes, and following
-  abbrev Is-equation : Equation → Type 0
-  Is-equation f =
-      (f .left < nodes t) × OnSide (λ n. n < nodes t) (f .right) × (Follows t λ I g. g (f .left) ≡ sideObject I g (f .right))
-
-  are-equations : All Is-equation (asked t .equations)
-  are-equations = all-zip (λ f w h. (w .0, w .1, h)) (asked t .equations) (within .equations) (follow .equations)
-
-  pub mark-inside : (k : ℕ) → markNode t k < nodes t
-  unfolding markNode
-  mark-inside k =
-      anchor-is (λ n. n < nodes t) k (asked t .equations) (startNode t) (all-map (λ f w s. w .0) (asked t .equations) (within .equations))
-      (omega arith)
-
-  -- the node of a mark that stands somewhere is the mark's object
-  marks-met : All (λ f. Follows t λ I g. (k : ℕ) → So (stands k f) → g (markNode t k) ≡ I .marks k) (asked t .equations)
-  unfolding markNode
-  marks-met =
-      all-follow t (λ I g f. (k : ℕ) → So (stands k f) → g (markNode t k) ≡ I .marks k) (asked t .equations) λ I g fits.
-      anchor-all (λ k n. g n ≡ I .marks k) (asked t .equations) (λ k. startNode t)
-      (all-map (λ f e k s. standing I g k (f .left) (f .right) e s) (asked t .equations) (fits .meets .equations))
-    where
-      standing : (I : State) (g : ℕ → ℕ) (k n : ℕ) (m : Side) → g n ≡ sideObject I g m → So (stands k record { left = n; right = m })
-          → g n ≡ I .marks k
-      standing I g k n (atNode j) e s = absurd (false≢true s)
-      standing I g k n (ofMark j) e s = e ∙ ap (I .marks) (sym (eqb-true k j s))
-
-  abbrev Is-tie : Tie → Type 0
-  Is-tie f = (f .left < nodes t) × (f .right < nodes t) × (Follows t λ I g. g (f .left) ≡ g (f .right))
-
-  are-ties : All Is-tie (ties t)
-  unfolding ties
-  are-ties =
-      all-mapped Is-tie (tie (markNode t)) (asked t .equations)
-      (all-zip (λ f k m. is-tie (f .left) (f .right) (k .0) (k .1) (k .2) m) (asked t .equations) are-equations marks-met)
-    where
-      is-tie : (n : ℕ) (m : Side) → n < nodes t → OnSide (λ i. i < nodes t) m → (Follows t λ I g. g n ≡ sideObject I g m)
-          → (Follows t λ I g. (k : ℕ) → So (stands k record { left = n; right = m }) → g (markNode t k) ≡ I .marks k)
-          → Is-tie (tie (markNode t) record { left = n; right = m })
-      is-tie n (atNode j) h w e met = (h, w, e)
-      is-tie n (ofMark k) h w e met = (h, mark-inside k, λ I g fits. e I g fits ∙ sym (met I g fits k (eq-eqb k k refl)))
-
-  pub ties-inside : All (λ f. (f .left < nodes t) × (f .right < nodes t)) (ties t)
-  ties-inside = all-map (λ f k. (k .0, k .1)) (ties t) are-ties
-
-  abbrev Is-member : Membership → Type 0
-  Is-member f = (f .class < t .schema .signature .classes) × (f .node < nodes t) × (Follows t λ I g. Member I (f .class) (g (f .node)))
-
-  are-members : All Is-member (asked t .members)
-  are-members = all-zip (λ f w h. (w .0, w .1, h)) (asked t .members) (within .members) (follow .members)
-
-  abbrev pub Is-edge : Edge → Type 0
-  Is-edge e = (e .origin < nodes t) × (e .target < nodes t) × (Follows t λ I g. Related I (e .attribute) (g (e .origin)) (g (e .target)))
-
-  pub are-edges : All Is-edge (asked t .edges)
-  are-edges = all-zip (λ e w h. (w .0, w .1, h)) (asked t .edges) (within .edges) (follow .edges)
-
-  equate-grows : (f : Tie) → Is-tie f → Rises (equate f)
+  equate-grows : (f : Tie) → Is-tie t formed f → Rises (equate f)
   equate-grows f k x ok = merge-grows t x ok (f .left) (f .right) (k .0) (k .1) (k .2)
 
-  assert-grows : (f : Membership) → Is-member f → Rises (assert f)
+  assert-grows : (f : Membership) → Is-member t formed f → Rises (assert f)
   assert-grows f k x ok =
       add-grows t x ok (f .node) (place (f .class)) (k .1) (place-below (t .schema .signature .classes) (f .class) (k .0))
       (λ I g fits B b. subst (λ (C : ℕ). Member I C (g (f .node))) (place-only (f .class) B b) (k .2 I g fits))
@@ -129,7 +46,7 @@ module _ (t : Task) (formed : WellFormed t) where
       add-grows t x ok n (raise (t .schema) (setOf x n)) h (r .small)
       (λ I g fits. r .sound I (fits .legal) (g n) (fits .assigns .inside n) (set-sound t x ok I g fits n h))
 
-  origin-grows : (e : Edge) → Is-edge e → Rises (typeOrigin (t .schema) e)
+  origin-grows : (e : Edge) → Is-edge t formed e → Rises (typeOrigin (t .schema) e)
   origin-grows e k x ok =
       add-grows t x ok (e .origin) (domain (t .schema) (e .attribute)) (k .0) (domain-small (t .schema) (formed .axioms) (e .attribute))
       (λ I g fits.
@@ -137,7 +54,7 @@ module _ (t : Task) (formed : WellFormed t) where
       (fits .assigns .inside _)
       (k .2 I g fits))
 
-  target-grows : (e : Edge) → Is-edge e → Rises (typeTarget (t .schema) e)
+  target-grows : (e : Edge) → Is-edge t formed e → Rises (typeTarget (t .schema) e)
   target-grows e k x ok =
       add-grows t x ok (e .target) (values (t .schema) (setOf x (e .origin)) (e .attribute)) (k .1)
       (values-small (t .schema) (formed .axioms) (setOf x (e .origin)) (e .attribute))
@@ -146,10 +63,10 @@ module _ (t : Task) (formed : WellFormed t) where
       (fits .assigns .inside _)
       (fits .assigns .inside _) (set-sound t x ok I g fits (e .origin) (k .0)) (k .2 I g fits))
 
-  type-grows : (e : Edge) → Is-edge e → Rises (λ x. typeTarget (t .schema) e (typeOrigin (t .schema) e x))
+  type-grows : (e : Edge) → Is-edge t formed e → Rises (λ x. typeTarget (t .schema) e (typeOrigin (t .schema) e x))
   type-grows e k = then-grows weight (Ok t) (typeOrigin (t .schema) e) (typeTarget (t .schema) e) (origin-grows e k) (target-grows e k)
 
-  module _ (e f : Edge) (k : Is-edge e) (l : Is-edge f) (x : Prime) (ok : Ok t x) where
+  module _ (e f : Edge) (k : Is-edge t formed e) (l : Is-edge t formed f) (x : Prime) (ok : Ok t x) where
     rival-parts : So (rival (t .schema) e f x)
         → (e .attribute ≡ f .attribute) × (repOf x (e .origin) ≡ repOf x (f .origin))
         × So (isSingle (t .schema) (setOf x (e .origin)) (e .attribute))
@@ -175,15 +92,15 @@ module _ (t : Task) (formed : WellFormed t) where
         merge-fixed t x ok (e .target) (f .target) (k .1) (l .1) (rival-same h)
         (ap (λ (b : Bool). cond b (merge (e .target) (f .target) x) x) (sym h) ∙ q)
 
-  unify-grows : (e f : Edge) → Is-edge e → Is-edge f → Rises (unify (t .schema) e f)
+  unify-grows : (e f : Edge) → Is-edge t formed e → Is-edge t formed f → Rises (unify (t .schema) e f)
   unify-grows e f k l x ok =
       cond-elim (λ y. Ok t y × ((y ≡ x) ⊎ (weight x < weight y))) (rival (t .schema) e f x)
       (λ h. merge-grows t x ok (e .target) (f .target) (k .1) (l .1) (rival-same e f k l x ok h)) (λ _. (ok, inl refl))
 
-  unify-each : (e : Edge) → Is-edge e → All (λ f. Rises (unify (t .schema) e f)) (asked t .edges)
-  unify-each e k = all-map (λ f l. unify-grows e f k l) (asked t .edges) are-edges
+  unify-each : (e : Edge) → Is-edge t formed e → All (λ f. Rises (unify (t .schema) e f)) (asked t .edges)
+  unify-each e k = all-map (λ f l. unify-grows e f k l) (asked t .edges) (are-edges t formed)
 
-  unify-all : (e : Edge) → Is-edge e → Rises (each (unify (t .schema) e) (asked t .edges))
+  unify-all : (e : Edge) → Is-edge t formed e → Rises (each (unify (t .schema) e) (asked t .edges))
   unify-all e k = each-grows weight (Ok t) (unify (t .schema) e) (asked t .edges) (unify-each e k)
 
 -- no rule adds anything to x

@@ -1,15 +1,15 @@
 -- The candidate's record. Its facts are just those of the candidate (facts-list), they are few (facts-few), and so the record
 -- is accepted (written-accepted) and stands for a state like the candidate (written-alike).
-use Prim.Native.Nat.{ℕ, suc, _+_, _*_, _≤_, _<_}
+use Prim.Native.Nat.{ℕ, suc, _+_, _≤_, _<_}
 use native.Mathlib.Omega.{arith}
 use native.Mathlib.Nat.{mul-le-mul}
 use mathlib.Core.Bool.{Bool, false, cond}
-use mathlib.Core.List.{List, [], _∷_, _++_, map}
+use mathlib.Core.List.{List, [], _∷_, _++_}
 use mathlib.Core.Logic.{inl, ⊎-elim}
 use mathlib.Core.Path.{_≡_, refl, sym, ap, subst, _∙_}
 use borrow.Author.Tests.{ltb-true}
-use lib.ListN.{length, length-append, length-map}
-use Rattle.records.specs.Layout.{objectPart, wordPart, maxFacts, maxStateWords, attributeKinds, constantKinds, markKinds, factKinds, maxMarks}
+use lib.ListN.{length, length-append}
+use Rattle.records.specs.Layout.{wordPart, maxFacts, maxStateWords, attributeKinds, constantKinds, markKinds, factKinds, maxMarks}
 use Rattle.records.specs.Marks.{among}
 use Rattle.records.specs.State.{Names}
 use Rattle.records.specs.Schema.{Schema}
@@ -24,68 +24,24 @@ use Rattle.chase.specs.Primary.{primary, clash}
 use Rattle.chase.specs.Ground.{Ground, groundOf, ground}
 use Rattle.chase.specs.Forest.{Forest, classesOf}
 use Rattle.chase.specs.Candidate.{objects, forest, candidate}
-use Rattle.chase.specs.Targets.{targets, pairs}
+use Rattle.chase.specs.Targets.{targets}
 use Rattle.chase.specs.Written.{nameFact, markFact, gather, classFacts, pairFacts, objectFacts, nameFacts, markFacts, declaredFacts, facts, written}
 use Rattle.records.proofs.General.BoolLaws.{cond-elim, and-left}
-use Rattle.records.proofs.General.AllLaws.{All, Mem, all-map, all-mapped, all-of, mem-left, mem-right, mem-split, mem-mapped, mem-unmapped}
-use Rattle.records.proofs.General.Ascending.{Ascends, Between, between-none, between-one, between-wider, between-append}
+use Rattle.records.proofs.General.AllLaws.{Mem, all-of, mem-left, mem-right, mem-split, mem-mapped, mem-unmapped}
+use Rattle.records.proofs.General.Ascending.{Between, between-none, between-one, between-wider, between-append}
 use Rattle.chase.proofs.GroundLaws.{nodeOf}
 use Rattle.chase.proofs.ForestLaws.{ground-size}
 use Rattle.chase.proofs.CandidateLaws.{room}
 use Rattle.chase.proofs.Answers.{names-of, ground-is, forest-is, candidate-legal, is-small}
 use Rattle.chase.proofs.AcceptanceLaws.{Within}
 use Rattle.chase.proofs.TargetLaws.{candidate-targets, candidate-ascends, target-inside}
-use Rattle.chase.proofs.PairLaws.{pairs-bound, ground-edges}
-use Rattle.chase.proofs.GatherLaws.{gather-of, gather-is, gather-between, gather-bound, gather-rows}
+use Rattle.chase.proofs.PairLaws.{ground-edges}
+use Rattle.chase.proofs.GatherLaws.{gather-of, gather-is, gather-between, gather-bound}
 use Rattle.chase.proofs.Alike.{Alike}
-use Rattle.chase.proofs.FactList.{FactOf, ofClass, ofPair, ofName, ofMark, Lists, Limited, list-accepted, list-alike}
+use Rattle.chase.proofs.FactOf.{FactOf, ofClass, ofPair, ofName, ofMark}
+use Rattle.chase.proofs.RowLaws.{object-facts-few, fact-between, rows-between}
+use Rattle.chase.proofs.FactList.{Lists, Limited, list-accepted, list-alike}
 use Rattle.chase.specs.Bounds.{maxCandidate}
-
--- A class has at most all objects, and there are at most as many pairs as objects and edges give.
-pub object-facts-few : (S : Schema) (G : Ground) (T : Forest)
-    → length (objectFacts S G T) ≤ S .signature .classes * objects S G T + (S .signature .attributes * objects S G T + length (G .edges))
-unfolding objectFacts classFacts pairFacts pairs
-object-facts-few S G T =
-    let n = objects S G T in
-    let members : ℕ → List ℕ = λ A. gather n (classFacts S G T A) in
-    let values : ℕ → List ℕ = λ P. gather n (pairFacts S G T P) in
-    omega (
-      arith,
-      length-append (gather (S .signature .classes) members) (gather (S .signature .attributes) values),
-      gather-bound members (S .signature .classes) n
-          (λ A.
-          omega (
-            arith,
-            gather-bound (classFacts S G T A) n 1
-                (λ d. cond-elim {A = List ℕ} (λ l. length l ≤ 1) (has (classesOf S G T d) A) (λ _. omega arith) (λ _. omega arith)),
-          )),
-      gather-rows (S .signature .attributes) n (pairFacts S G T) (λ P d. length (targets S G T P d))
-          (λ P d. omega (arith, length-map (targets S G T P d) (fact (attributeKinds + P) d))),
-      pairs-bound S G T,
-    )
-
--- Facts of one kind and object lie between its first fact and the next object's, and so in a row over objects and kinds.
-
-fact-between : (k d : ℕ) (l : List ℕ) → Ascends l → All (λ e. e < wordPart) l → Between (fact k d 0) (fact k (suc d) 0) (map (fact k d) l)
-fact-between k d l a b =
-    record {
-      order = omega arith;
-      ascends = up l a;
-      lower = all-mapped (λ f. fact k d 0 ≤ f) (fact k d) l (all-map (λ e h. omega arith) l b);
-      upper = all-mapped (λ f. f < fact k (suc d) 0) (fact k d) l (all-map (λ e h. omega arith) l b);
-    }
-  where
-    up : (l : List ℕ) → Ascends l → Ascends (map (fact k d) l)
-    up [] a = tt
-    up (e ∷ l) a = (all-mapped (λ f. fact k d e < f) (fact k d) l (all-map (λ y h. omega arith) l (a .0)), up l (a .1))
-
-rows-between : (k m n : ℕ) (f : ℕ → ℕ → List ℕ) → n ≤ objectPart
-    → ((i d : ℕ) → i < m → d < n → Between (fact (k + i) d 0) (fact (k + i) (suc d) 0) (f i d))
-    → Between (fact k 0 0) (fact (k + m) 0 0) (gather m (λ i. gather n (f i)))
-rows-between k m n f small h =
-    between-wider (gather m (λ i. gather n (f i))) (omega arith) (omega arith)
-    (gather-between (λ i. gather n (f i)) m (λ i. fact (k + i) 0 0)
-    (λ i j. between-wider (gather n (f i)) (omega arith) (omega arith) (gather-between (f i) n (λ d. fact (k + i) d 0) (λ d. h i d j))))
 
 module _ (t : Task) (ok : Within t) where
   abbrev S : Schema

@@ -20,7 +20,7 @@ use Rattle.chase.specs.Ground.{live, ground}
 use Rattle.chase.specs.Candidate.{objects, forest}
 use Rattle.chase.specs.Written.{facts}
 use Rattle.chase.proofs.AcceptanceLaws.{Within, accepted-formed, accepted-within}
-use Rattle.chase.proofs.PrimaryLaws.{mark-inside}
+use Rattle.chase.proofs.AskedLaws.{mark-inside}
 use Rattle.chase.proofs.PairLaws.{asked-edges}
 use Rattle.primary.specs.Formed.{prime, Becomes}
 use Rattle.chase.specs.Bounds.{maxNodes}

@@ -19,7 +19,8 @@ use Rattle.records.proofs.General.AllLaws.{All, all-unmapped, all-getD}
 use Rattle.chase.proofs.AcceptanceLaws.{accepted-signature, accepted-formed}
 use Rattle.chase.proofs.LoopLaws.{grows-le, still}
 use Rattle.chase.proofs.PrimeLaws.{Ok, weight-bound}
-use Rattle.chase.proofs.PrimaryLaws.{within, ties-inside, pass-grows, begin-ok, settled-next, settled-stop}
+use Rattle.chase.proofs.AskedLaws.{within, ties-inside}
+use Rattle.chase.proofs.PrimaryLaws.{pass-grows, begin-ok, settled-next, settled-stop}
 use Rattle.primary.specs.Formed.{prime, Formed, Becomes}
 use Rattle.chase.specs.Bounds.{maxNodes}
 use Rattle.primary.specs.Words.{memberOf, tieOf, edgeOf, FactsIn}
