@@ -10,8 +10,7 @@ use lib.Seq.{take-suc-set}
 use Rattle.records.specs.Layout.{maxTokens}
 use Rattle.records.specs.Concept.{forward}
 use Rattle.chase.specs.Task.{Tie}
-use Rattle.chase.specs.Facts.{Membership, atNode, ofMark, Equation, Edge, Facts, none, member, equal, related, _⊕_}
-use Rattle.records.specs.Layout.{maxMarks}
+use Rattle.chase.specs.Facts.{Membership, Side, atNode, ofMark, Equation, Edge, Facts, none, member, equal, related, _⊕_}
 use Rattle.chase.specs.Bounds.{maxNodes}
 use Rattle.primary.specs.Words.{part, memberOf, edgeOf}
 use Rattle.primary.proofs.WordLaws.{member-word, tie-word, edge-word}
@@ -97,13 +96,15 @@ pushed-fact f l v a q = map-append f l (v ∷ []) ∙ ap (λ (b : _). map f l ++
 side-word : (n r : ℕ) → r < part → equationOf (n * part + r) ≡ record { left = n; right = sideOf r }
 side-word n r h = ap (λ (f : Tie). record { left = f .left; right = sideOf (f .right) }) (tie-word n r h)
 
-equation-word : (n m : ℕ) → m < maxNodes → equationOf (n * part + m) ≡ record { left = n; right = atNode m }
-equation-word n m h = side-word n m (omega arith) ∙ rw (lt-ltb m maxNodes h)
+pub side-node : (m : ℕ) → m < maxNodes → sideOf m ≡ atNode m
+side-node m h = rw (lt-ltb m maxNodes h)
 
-mark-word : (n k : ℕ) → k < maxMarks → equationOf (n * part + (maxNodes + k)) ≡ record { left = n; right = ofMark k }
-mark-word n k h =
-    side-word n (maxNodes + k) (omega arith)
-    ∙ rw (le-ltb (maxNodes + k) maxNodes (omega arith)) (ap (λ (j : ℕ). record { left = n; right = ofMark j }) (omega arith))
+pub side-mark : (k : ℕ) → sideOf (maxNodes + k) ≡ ofMark k
+side-mark k = rw (le-ltb (maxNodes + k) maxNodes (omega arith)) (ap ofMark (omega arith))
+
+-- the same fact with its side told
+pub grown-side : {k : Kind} {n : ℕ} {e : Side} {x y : Words} (m : ℕ) → sideOf m ≡ e → Grown k (equal n (sideOf m)) 0 1 x y → Grown k (equal n e) 0 1 x y
+grown-side {k} {n} m q p = grown-as (ap (equal n) (sym q)) refl p
 
 -- a fact of another kind leaves the list as it was
 pub kept : {k : Kind} {F : Facts} {x : Words} (j : Kind) → Room x → k ≡ j → Lacks j F → Grown k F 0 1 x x
@@ -114,13 +115,9 @@ module _ {k : Kind} {x r : Words} (h : Room x) where
   member-grown A n q l e =
       rw (q, e) (pushed-grown Members (member A n) x _ h (pushed-fact memberOf (listed x) _ _ (member-word A n l)))
 
-  pub equation-grown : (n m : ℕ) → k ≡ Equations → m < maxNodes → r ≡ pushed x (n * part + m) → Grown k (equal n (atNode m)) 0 1 x r
-  equation-grown n m q l e =
-      rw (q, e) (pushed-grown Equations (equal n (atNode m)) x _ h (pushed-fact equationOf (listed x) _ _ (equation-word n m l)))
-
-  pub mark-grown : (n m : ℕ) → k ≡ Equations → m < maxMarks → r ≡ pushed x (n * part + (maxNodes + m)) → Grown k (equal n (ofMark m)) 0 1 x r
-  mark-grown n m q l e =
-      rw (q, e) (pushed-grown Equations (equal n (ofMark m)) x _ h (pushed-fact equationOf (listed x) _ _ (mark-word n m l)))
+  pub side-grown : (n m : ℕ) → k ≡ Equations → m < part → r ≡ pushed x (n * part + m) → Grown k (equal n (sideOf m)) 0 1 x r
+  side-grown n m q l e =
+      rw (q, e) (pushed-grown Equations (equal n (sideOf m)) x _ h (pushed-fact equationOf (listed x) _ _ (side-word n m l)))
 
   pub edge-grown : (P n m : ℕ) → k ≡ Edges → n < part → m < part → r ≡ pushed x ((P * part + n) * part + m)
       → Grown k (related forward P n m) 0 1 x r

@@ -11,7 +11,7 @@ ghost use Rattle.records.specs.Layout.{maxMarks};
 ghost use Rattle.chase.specs.Bounds.{maxNodes};
 ghost use Rattle.chase.specs.Facts.{atNode, ofMark, member, equal, related};
 ghost use Rattle.primary.specs.Words.{part};
-ghost use Rattle.asked.specs.Listed.{Room, pushed, Grown};
+ghost use Rattle.asked.specs.Listed.{sideOf, Room, pushed, Grown};
 
 pub enum Kind {
     Members,
@@ -51,11 +51,11 @@ pub fn add_member(kind: Kind, class: usize, node: usize, list: Words) -> Words
     }
 }
 
-// The two nodes are one object.
-pub fn add_equation(kind: Kind, left: usize, right: usize, list: Words) -> Words
+// The node is what stands on the right: a node or, above all nodes, a mark.
+fn add_side(kind: Kind, left: usize, right: usize, list: Words) -> Words
     requires { ⌜ Room list ⌝ }
-    requires { ⌜ (left < part) × (right < maxNodes) ⌝ }
-    ensures { λ r. ⌜ Grown kind (equal left (atNode right)) 0 1 list r ⌝ }
+    requires { ⌜ (left < part) × (right < part) ⌝ }
+    ensures { λ r. ⌜ Grown kind (equal left (sideOf right)) 0 1 list r ⌝ }
 {
     match kind {
         Kind::Members => list,
@@ -64,17 +64,22 @@ pub fn add_equation(kind: Kind, left: usize, right: usize, list: Words) -> Words
     }
 }
 
+// The two nodes are one object.
+pub fn add_equation(kind: Kind, left: usize, right: usize, list: Words) -> Words
+    requires { ⌜ Room list ⌝ }
+    requires { ⌜ (left < part) × (right < maxNodes) ⌝ }
+    ensures { λ r. ⌜ Grown kind (equal left (atNode right)) 0 1 list r ⌝ }
+{
+    add_side(kind, left, right, list)
+}
+
 // The mark stands at the node.
 pub fn add_mark(kind: Kind, mark: usize, node: usize, list: Words) -> Words
     requires { ⌜ Room list ⌝ }
     requires { ⌜ (mark < maxMarks) × (node < part) ⌝ }
     ensures { λ r. ⌜ Grown kind (equal node (ofMark mark)) 0 1 list r ⌝ }
 {
-    match kind {
-        Kind::Members => list,
-        Kind::Equations => list.push(node * PART + (MAX_NODES + mark)),
-        Kind::Edges => list,
-    }
+    add_side(kind, node, MAX_NODES + mark, list)
 }
 
 // The two nodes are a pair of the attribute.

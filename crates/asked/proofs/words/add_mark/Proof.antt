@@ -1,52 +1,19 @@
--- A word where equations are asked for, whose right part is above all nodes.
-use mathlib.Core.Path.{refl}
-use Rattle.asked.specs.declared.words.Kind.the-variants.{Members, Edges}
-use Rattle.asked.proofs.GrownLaws.{kept, mark-grown}
+-- The right side is above all nodes, and so a mark.
+use Prim.Native.Nat.{_+_}
+use Rattle.chase.specs.Bounds.{maxNodes}
 use borrow.Author.Needs.{needs}
+use Rattle.asked.proofs.GrownLaws.{side-mark, grown-side}
 use Rattle.asked.proofs.words.add_mark.Statement.{statement}
 use Rattle.asked.proofs.words.add_mark.Tie as tie
 
-enum-told : tie.Need-enum-told
-enum-told c = search needs
+add-add-side : tie.Need-add-add-side
+add-add-side c = search needs
 
-enum-told-2 : tie.Need-enum-told-2
-enum-told-2 c = search needs
-
-mul-push : tie.Need-mul-push
-mul-push c = search needs
-
-add-push : tie.Need-add-push
-add-push c = search needs
-
-add-push-2 : tie.Need-add-push-2
-add-push-2 c = search needs
-
-push-requires : tie.Need-push-requires
-push-requires c κs = search needs
-
-enum-told-3 : tie.Need-enum-told-3
-enum-told-3 c = search needs
+add-side-requires : tie.Need-add-side-requires
+add-side-requires c κs = search needs
 
 returns : tie.Need-returns
-returns c = kept Members (c .before .before .pre .0) (c .enum-told .given .1) refl
-
-returns-2 : tie.Need-returns-2
-returns-2 c = mark-grown (c .before .before .before .pre .0) _ _ (c .before .enum-told2 .given .1) (c .before .before .before .pre .1 .0) (c .push .ensures)
-
-returns-3 : tie.Need-returns-3
-returns-3 c = kept Edges (c .before .before .pre .0) (c .enum-told3 .given .1) refl
+returns c = grown-side (maxNodes + c .before .args .mark) (side-mark _) (c .add-side .ensures)
 
 pub add-mark-spec : {M : Type 1} → statement M
-add-mark-spec =
-    tie.close
-    (tie.spec
-    enum-told
-    enum-told-2
-    mul-push
-    add-push
-    add-push-2
-    push-requires
-    enum-told-3
-    returns
-    returns-2
-    returns-3)
+add-mark-spec = tie.close (tie.spec add-add-side add-side-requires returns)
