@@ -25,11 +25,11 @@ use Rattle.records.specs.State.{repeats}
 use Rattle.records.specs.Shape.{misshapen, outside}
 use Rattle.records.specs.SchemaRefusal.{oversized, declares, faultyAxiom, refusal-1, refusal-2, refusal-14, schemaAnswer, schemaNumber, AcceptedSchema}
 use Rattle.records.specs.ConceptRefusal.{suits, faultyToken, steps, refusal-3, refusal-4, refusal-5, refusal-6, conceptAnswer, conceptNumber, AcceptedConcept}
-use Rattle.records.specs.StateRefusal.{faultyFact, ascends, descends, namesAt, misnames, marksAt, mismarks, refusal-7, refusal-8, refusal-9, refusal-10, stateAnswer, stateNumber, AcceptedState}
+use Rattle.records.specs.StateRefusal.{faultyFact, ascends, descends, namesAt, misnames, marksAt, mismarks, refusal-7, refusal-8, refusal-9, refusal-15, refusal-10, stateAnswer, stateNumber, AcceptedState}
 use Rattle.records.specs.Helpers.Steps.{conceptSteps}
 use Rattle.records.specs.Helpers.Reading.{startOf, HasConcept, stepToken, stepNumber}
 use Rattle.records.specs.Helpers.InRange.{AxiomInRange, TokenInRange}
-use Rattle.records.proofs.General.BoolLaws.{or-false, or-false-left, or-false-right, and-left, and-map, and-three-map, none-of-three, none-of-four}
+use Rattle.records.proofs.General.BoolLaws.{or-false, or-false-left, or-false-right, and-left, and-map, and-three-map, not-first}
 use Rattle.records.proofs.General.FiniteLaws.{any-none}
 use Rattle.records.proofs.ReadingLaws.{number-concept, whole-concept}
 
@@ -37,9 +37,10 @@ use Rattle.records.proofs.ReadingLaws.{number-concept, whole-concept}
 
 pub faultless-schema : (w : List ℕ) → schemaNumber (schemaAnswer w) ≡ 0 → (refusal-1 w ≡ false) × (refusal-14 w ≡ false) × (refusal-2 w ≡ false)
 unfolding schemaAnswer
-faultless-schema w =
-    none-of-three (λ a. schemaNumber a ≡ 0) schema.BadShape schema.BadLoose schema.BadAxiom _ (λ e. omega arith) (λ e. omega arith) (λ e. omega arith)
-    (refusal-1 w) (refusal-14 w) (refusal-2 w)
+faultless-schema w e =
+    let (a, p) = not-first (λ x. schemaNumber x ≡ 0) schema.BadShape _ (λ h. omega arith) (refusal-1 w) e in
+    let (b, q) = not-first (λ x. schemaNumber x ≡ 0) schema.BadLoose _ (λ h. omega arith) (refusal-14 w) p in
+    let (c, r) = not-first (λ x. schemaNumber x ≡ 0) schema.BadAxiom _ (λ h. omega arith) (refusal-2 w) q in (a, b, c)
 
 module _ (w : List ℕ) (ok : AcceptedSchema w) where
   passes-schema : (refusal-1 w ≡ false) × (refusal-14 w ≡ false) × (refusal-2 w ≡ false)
@@ -55,9 +56,11 @@ module _ (limit : ℕ) (s : Signature) (w : List ℕ) where
   pub faultless-concept : conceptNumber (conceptAnswer limit s w) ≡ 0
       → (refusal-3 w ≡ false) × (refusal-4 s w ≡ false) × (refusal-5 w ≡ false) × (refusal-6 limit w ≡ false)
   unfolding conceptAnswer
-  faultless-concept =
-      none-of-four (λ a. conceptNumber a ≡ 0) concept.BadShape concept.BadToken concept.BadPile concept.BadSteps _ (λ e. omega arith) (λ e. omega arith) (λ e. omega arith) (λ e. omega arith)
-      (refusal-3 w) (refusal-4 s w) (refusal-5 w) (refusal-6 limit w)
+  faultless-concept e =
+      let (a, p) = not-first (λ x. conceptNumber x ≡ 0) concept.BadShape _ (λ h. omega arith) (refusal-3 w) e in
+      let (b, q) = not-first (λ x. conceptNumber x ≡ 0) concept.BadToken _ (λ h. omega arith) (refusal-4 s w) p in
+      let (c, r) = not-first (λ x. conceptNumber x ≡ 0) concept.BadPile _ (λ h. omega arith) (refusal-5 w) q in
+      let (d, t) = not-first (λ x. conceptNumber x ≡ 0) concept.BadSteps _ (λ h. omega arith) (refusal-6 limit w) r in (a, b, c, d)
 
 module _ (limit : ℕ) (s : Signature) (w : List ℕ) (ok : AcceptedConcept limit s w) where
   passes-concept : (refusal-3 w ≡ false) × (refusal-4 s w ≡ false) × (refusal-5 w ≡ false) × (refusal-6 limit w ≡ false)
@@ -87,14 +90,17 @@ module _ (limit : ℕ) (s : Signature) (w : List ℕ) (ok : AcceptedConcept limi
 
 module _ (s : Signature) (w : List ℕ) where
   pub faultless-state : stateNumber (stateAnswer s w) ≡ 0
-      → (refusal-7 w ≡ false) × (refusal-8 s w ≡ false) × (refusal-9 w ≡ false) × (refusal-10 s w ≡ false)
+      → (refusal-7 w ≡ false) × (refusal-8 s w ≡ false) × (refusal-9 w ≡ false) × (refusal-15 w ≡ false) × (refusal-10 s w ≡ false)
   unfolding stateAnswer
-  faultless-state =
-      none-of-four (λ a. stateNumber a ≡ 0) state.BadShape state.BadFact state.BadOrder state.BadConstants _ (λ e. omega arith) (λ e. omega arith) (λ e. omega arith) (λ e. omega arith)
-      (refusal-7 w) (refusal-8 s w) (refusal-9 w) (refusal-10 s w)
+  faultless-state e =
+      let (a, p) = not-first (λ x. stateNumber x ≡ 0) state.BadShape _ (λ h. omega arith) (refusal-7 w) e in
+      let (b, q) = not-first (λ x. stateNumber x ≡ 0) state.BadFact _ (λ h. omega arith) (refusal-8 s w) p in
+      let (c, r) = not-first (λ x. stateNumber x ≡ 0) state.BadOrder _ (λ h. omega arith) (refusal-9 w) q in
+      let (d, t) = not-first (λ x. stateNumber x ≡ 0) state.BadClassFacts _ (λ h. omega arith) (refusal-15 w) r in
+      let (f, u) = not-first (λ x. stateNumber x ≡ 0) state.BadConstants _ (λ h. omega arith) (refusal-10 s w) t in (a, b, c, d, f)
 
 module _ (s : Signature) (w : List ℕ) (ok : AcceptedState s w) where
-  passes-state : (refusal-7 w ≡ false) × (refusal-8 s w ≡ false) × (refusal-9 w ≡ false) × (refusal-10 s w ≡ false)
+  passes-state : (refusal-7 w ≡ false) × (refusal-8 s w ≡ false) × (refusal-9 w ≡ false) × (refusal-15 w ≡ false) × (refusal-10 s w ≡ false)
   passes-state = faultless-state s w (ap stateNumber ok)
 
   pub passes-7 : refusal-7 w ≡ false
@@ -106,8 +112,11 @@ module _ (s : Signature) (w : List ℕ) (ok : AcceptedState s w) where
   pub passes-9 : refusal-9 w ≡ false
   passes-9 = passes-state .2
 
+  pub passes-15 : refusal-15 w ≡ false
+  passes-15 = passes-state .3
+
   pub passes-10 : refusal-10 s w ≡ false
-  passes-10 = passes-state .3
+  passes-10 = passes-state .4
 
 -- What each test that does not apply gives.
 

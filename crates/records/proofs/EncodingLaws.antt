@@ -5,6 +5,7 @@ use native.Mathlib.Omega.{arith}
 use mathlib.Core.Bool.{false}
 use mathlib.Core.List.{List, [], _∷_, _++_, map}
 use mathlib.Core.Path.{_≡_, refl, sym, ap, ap₂, _∙_}
+use lib.Dec.{ltb}
 use lib.ListN.{length, getD, length-append, length-map, List·getD-append}
 use lib.Seq.{getD-append-add}
 use borrow.Author.Tests.{eq-eqb, le-ltb}
@@ -13,13 +14,14 @@ use Rattle.records.specs.declared.schema.Signature.{Signature}
 use Rattle.records.specs.declared.schema.Axiom.{Axiom}
 use Rattle.records.specs.declared.schema.Axiom.the-variants.{Subclass, Typing, Necessary, Single, Relates}
 use Rattle.records.specs.Finite.{count}
-use Rattle.records.specs.Layout.{schemaLayout, conceptLayout, stateLayout, sizeAt, entries, leftAt, rightAt, lengthFor, maxFacts, maxStateWords, noMarks, bytePart, objectPart, wordPart}
+use Rattle.records.specs.Layout.{schemaLayout, conceptLayout, stateLayout, sizeAt, entries, leftAt, rightAt, lengthFor, maxFacts, maxStateWords, noMarks, bytePart, objectPart, wordPart, attributeKinds}
 use Rattle.records.specs.SchemaRecord.{signatureOf, axiomKind, axiomOf, schemaOf}
 use Rattle.records.specs.ConceptRecord.{tokenOf, tokenAt}
-use Rattle.records.specs.StateRecord.{objects, kindAt, objectAt}
+use Rattle.records.specs.StateRecord.{objects, classFacts, kindAt, objectAt, isClassFact}
 use Rattle.records.specs.Shape.{misshapen}
 use Rattle.records.specs.ConceptRefusal.{isStep, stepAt, steps}
-use Rattle.records.specs.Encoding.{recordOf, Words, leftOf, rightOf, schemaSizes, schemaRecord, axiomWords, stepsIn, conceptSizes, conceptRecord, fact, leftWord, rightWord, stateSizes, stateRecord}
+use Rattle.records.specs.StateRefusal.{refusal-15}
+use Rattle.records.specs.Encoding.{recordOf, Words, leftOf, rightOf, schemaSizes, schemaRecord, axiomWords, stepsIn, conceptSizes, conceptRecord, fact, leftWord, rightWord, classFactsIn, stateSizes, stateRecord}
 use Rattle.records.specs.Marks.{allowing}
 use Rattle.records.specs.Helpers.InRange.{AxiomInRange}
 use Rattle.records.proofs.General.FiniteLaws.{count-same}
@@ -167,7 +169,7 @@ fact-parts k d r h j = omega arith
 -- The state.
 
 -- how many words n facts take, and that those of any accepted state are few
-pub state-words : (n : ℕ) → lengthFor stateLayout n ≡ 2 + 2 * n
+pub state-words : (n : ℕ) → lengthFor stateLayout n ≡ length (stateSizes 0 0 0) + 2 * n
 unfolding lengthFor stateLayout
 state-words n = refl
 
@@ -176,7 +178,7 @@ unfolding lengthFor maxStateWords
 state-fits n h = omega arith
 
 module _ (n : ℕ) (l : List ℕ) where
-  state-sizes : Sizes stateLayout (stateSizes n (length l)) (length l)
+  state-sizes : Sizes stateLayout (stateSizes n (length l) (classFactsIn l)) (length l)
   unfolding stateLayout
   state-sizes = record { many = refl; inside = omega arith; counts = refl }
 
@@ -207,6 +209,20 @@ module _ (n : ℕ) (l : List ℕ) where
   pub state-object : (i : ℕ) → i < length l → objectAt (stateRecord n l) i ≡ objectIn (getD l i 0)
   unfolding objectAt
   state-object i h = ap (λ (x : ℕ). x % objectPart) (state-left i h)
+
+  state-said : classFacts (stateRecord n l) ≡ classFactsIn l
+  unfolding classFacts sizeAt stateRecord recordOf
+  state-said = refl
+
+  state-counts : count (entries stateLayout (stateRecord n l)) (isClassFact (stateRecord n l)) ≡ classFactsIn l
+  unfolding classFactsIn isClassFact
+  state-counts =
+      ap (λ (m : ℕ). count m (isClassFact (stateRecord n l))) state-facts
+      ∙ count-same (isClassFact (stateRecord n l)) _ (length l) (λ i h. ap (λ (k : ℕ). ltb k attributeKinds) (state-kind i h))
+
+  pub state-counted : refusal-15 (stateRecord n l) ≡ false
+  unfolding refusal-15
+  state-counted = rw (eq-eqb (classFacts (stateRecord n l)) _ (state-said ∙ sym state-counts))
 
   pub state-shaped : misshapen stateLayout (stateRecord n l) ≡ false
   unfolding stateRecord

@@ -18,12 +18,12 @@ use Rattle.records.specs.Semantics.{In, Selects}
 use Rattle.records.specs.Layout.{schemaLayout, conceptLayout, stateLayout, sizeAt, entries, leftAt, rightAt, lengthFor, querySteps, noMarks}
 use Rattle.records.specs.SchemaRecord.{signatureOf, axiomKind, axiomOf, schemaOf}
 use Rattle.records.specs.ConceptRecord.{tokenOf, tokenAt, pileAfter, conceptOf}
-use Rattle.records.specs.StateRecord.{objects, kindAt, objectAt, says, saysPair, stateOf}
+use Rattle.records.specs.StateRecord.{objects, classFacts, kindAt, objectAt, isClassFact, says, saysPair, stateOf}
 use Rattle.records.specs.Shape.{misshapen}
 use Rattle.records.specs.SchemaRefusal.{refusal-1, refusal-14, faultyAxiom, refusal-2, schemaAnswer, schemaNumber}
 use Rattle.records.specs.ConceptRefusal.{refusal-3, faultyToken, refusal-4, refusal-5, steps, refusal-6, conceptAnswer, conceptNumber}
-use Rattle.records.specs.StateRefusal.{refusal-7, faultyFact, refusal-8, ascends, refusal-9, refusal-10, stateAnswer, stateNumber}
-use Rattle.records.specs.Encoding.{recordOf, schemaRecord, conceptRecord, stepsIn, fact, stateRecord}
+use Rattle.records.specs.StateRefusal.{refusal-7, faultyFact, refusal-8, ascends, refusal-9, refusal-15, refusal-10, stateAnswer, stateNumber}
+use Rattle.records.specs.Encoding.{recordOf, schemaRecord, conceptRecord, stepsIn, fact, classFactsIn, stateRecord}
 use Rattle.records.specs.Executable.{isIn, firstBroken}
 use Rattle.records.proofs.General.BoolLaws.{or-true-cases, false-of-not, and-map, and-three-map, same-iff}
 use Rattle.records.proofs.General.FiniteLaws.{all-at}
@@ -212,11 +212,11 @@ table-passes : So (allPass table)
 unfolding
     allPass passes accepts exactly below deserves named repeats all any count least
     schemaLayout conceptLayout stateLayout sizeAt entries leftAt rightAt lengthFor
-    signatureOf axiomKind axiomOf schemaOf tokenOf tokenAt pileAfter conceptOf objects kindAt objectAt says saysPair stateOf
-    recordOf schemaRecord conceptRecord stepsIn stateRecord
+    signatureOf axiomKind axiomOf schemaOf tokenOf tokenAt pileAfter conceptOf objects classFacts kindAt objectAt isClassFact says saysPair stateOf
+    recordOf schemaRecord conceptRecord stepsIn classFactsIn stateRecord
     misshapen refusal-1 refusal-14 faultyAxiom refusal-2 schemaAnswer
     refusal-3 faultyToken refusal-4 refusal-5 steps refusal-6 conceptAnswer
-    refusal-7 faultyFact refusal-8 ascends refusal-9 refusal-10 stateAnswer
+    refusal-7 faultyFact refusal-8 ascends refusal-9 refusal-15 refusal-10 stateAnswer
 table-passes = refl
 
 pub table-true : (r : Row) → List·Memᴰ r table → True r

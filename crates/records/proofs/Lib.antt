@@ -15,6 +15,7 @@ pub mod NamedLaws
 pub mod CatalogueLaws
 pub mod ConceptScanLaws
 pub mod StateScanLaws
+pub mod OrderLaws
 pub mod FactLaws
 pub mod AcceptedNames
 pub mod PileLaws
@@ -28,3 +29,4 @@ pub mod Examples
 -- What some concepts name.
 pub mod NamedExamples
 pub mod LooseExamples
+pub mod ClassFactExamples

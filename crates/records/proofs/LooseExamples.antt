@@ -7,11 +7,11 @@ use Rattle.records.specs.Finite.{any, count, least}
 use Rattle.records.specs.State.{repeats}
 use Rattle.records.specs.Layout.{schemaLayout, stateLayout, sizeAt, entries, leftAt, rightAt, lengthFor}
 use Rattle.records.specs.SchemaRecord.{signatureOf, axiomKind, axiomOf, schemaOf}
-use Rattle.records.specs.StateRecord.{objects, kindAt, objectAt, says, saysPair, stateOf}
+use Rattle.records.specs.StateRecord.{objects, classFacts, kindAt, objectAt, isClassFact, says, saysPair, stateOf}
 use Rattle.records.specs.Shape.{misshapen}
 use Rattle.records.specs.SchemaRefusal.{refusal-1, refusal-14, faultyAxiom, refusal-2, schemaAnswer, schemaNumber}
-use Rattle.records.specs.StateRefusal.{refusal-7, faultyFact, refusal-8, ascends, refusal-9, refusal-10, stateAnswer, stateNumber}
-use Rattle.records.specs.Encoding.{Words, recordOf, schemaRecord, fact, stateRecord}
+use Rattle.records.specs.StateRefusal.{refusal-7, faultyFact, refusal-8, ascends, refusal-9, refusal-15, refusal-10, stateAnswer, stateNumber}
+use Rattle.records.specs.Encoding.{Words, recordOf, schemaRecord, fact, classFactsIn, stateRecord}
 use Rattle.records.proofs.Examples.{declaring}
 
 -- the number of a schema with so many constants, these of them loose, and these axioms
@@ -31,7 +31,7 @@ pub loose-by-hand :
     × (stateGets 0 1 0 ≡ 0) × (stateGets 0 1 1 ≡ 0) × (stateGets 0 0 1 ≡ 10) × (stateGets 0 0 0 ≡ 10)
 unfolding
     repeats any count least schemaLayout stateLayout sizeAt entries leftAt rightAt lengthFor
-    signatureOf axiomKind axiomOf schemaOf objects kindAt objectAt says saysPair stateOf recordOf schemaRecord stateRecord
+    signatureOf axiomKind axiomOf schemaOf objects classFacts kindAt objectAt isClassFact says saysPair stateOf recordOf schemaRecord classFactsIn stateRecord
     misshapen refusal-1 refusal-14 faultyAxiom refusal-2 schemaAnswer
-    refusal-7 faultyFact refusal-8 ascends refusal-9 refusal-10 stateAnswer
+    refusal-7 faultyFact refusal-8 ascends refusal-9 refusal-15 refusal-10 stateAnswer
 loose-by-hand = (refl, refl, refl, refl, refl, refl, refl, refl, refl, refl, refl)

@@ -1,7 +1,7 @@
 -- The first refusal: the laws by which every entry is refused or answers (refused-at, answered-at), what its outcome tells
 -- (outcome-refused, outcome-answered), and the numbers of the checks: 0 where a record is accepted, and otherwise not.
-use Prim.Native.Nat.{ℕ, _≤_, _<_}
-use mathlib.Core.List.{List, [], _∷_, _++_}
+use Prim.Native.Nat.{ℕ, suc, _≤_, _<_}
+use mathlib.Core.List.{List, [], _∷_, _++_, map}
 use mathlib.Core.Bool.{Bool, false, true, cond, false≢true}
 use mathlib.Core.Path.{_≡_, refl, sym, ap, _∙_}
 use mathlib.Core.Logic.{⊎-elim}
@@ -127,30 +127,31 @@ module _ {A : Type 0} (refused : ℕ → A) (answer : A) where
 
 -- The number of each check.
 
-none-of-three : OneOf (1 ∷ 2 ∷ 3 ∷ []) 0 → ⊥
-none-of-three t = ⊎-elim (λ e. omega arith) (⊎-elim (λ e. omega arith) (λ e. omega arith)) t
-
-none-of-four : OneOf (1 ∷ 2 ∷ 3 ∷ 4 ∷ []) 0 → ⊥
-none-of-four t = ⊎-elim (λ e. omega arith) (⊎-elim (λ e. omega arith) (⊎-elim (λ e. omega arith) (λ e. omega arith))) t
+-- the answers' tags: "accepted" is the first
+not-zero : (l : List ℕ) → OneOf (map suc l) 0 → ⊥
+not-zero [] t = t
+not-zero (k ∷ []) t = omega arith
+not-zero (k ∷ j ∷ l) t = ⊎-elim (λ e. omega arith) (not-zero (j ∷ l)) t
 
 schema-not-accepted : (a : SchemaAnswer) → OneOf (1 ∷ 2 ∷ 3 ∷ []) (tagOf Schema.the-type a) → eqb (schemaNumber a) 0 ≡ false
-schema-not-accepted (of-schema.Accepted s) t = absurd (none-of-three t)
+schema-not-accepted (of-schema.Accepted s) t = absurd (not-zero (0 ∷ 1 ∷ 2 ∷ []) t)
 schema-not-accepted of-schema.BadShape t = refl
 schema-not-accepted of-schema.BadLoose t = refl
 schema-not-accepted of-schema.BadAxiom t = refl
 
 concept-not-accepted : (a : ConceptAnswer) → OneOf (1 ∷ 2 ∷ 3 ∷ 4 ∷ []) (tagOf Concept.the-type a) → eqb (conceptNumber a) 0 ≡ false
-concept-not-accepted (of-concept.Accepted named) t = absurd (none-of-four t)
+concept-not-accepted (of-concept.Accepted named) t = absurd (not-zero (0 ∷ 1 ∷ 2 ∷ 3 ∷ []) t)
 concept-not-accepted of-concept.BadShape t = refl
 concept-not-accepted of-concept.BadToken t = refl
 concept-not-accepted of-concept.BadPile t = refl
 concept-not-accepted of-concept.BadSteps t = refl
 
-state-not-accepted : (a : StateAnswer) → OneOf (1 ∷ 2 ∷ 3 ∷ 4 ∷ []) (tagOf State.the-type a) → eqb (stateNumber a) 0 ≡ false
-state-not-accepted of-state.Accepted t = absurd (none-of-four t)
+state-not-accepted : (a : StateAnswer) → OneOf (1 ∷ 2 ∷ 3 ∷ 4 ∷ 5 ∷ []) (tagOf State.the-type a) → eqb (stateNumber a) 0 ≡ false
+state-not-accepted of-state.Accepted t = absurd (not-zero (0 ∷ 1 ∷ 2 ∷ 3 ∷ 4 ∷ []) t)
 state-not-accepted of-state.BadShape t = refl
 state-not-accepted of-state.BadFact t = refl
 state-not-accepted of-state.BadOrder t = refl
+state-not-accepted of-state.BadClassFacts t = refl
 state-not-accepted of-state.BadConstants t = refl
 
 -- What is returned of a check that does not accept: by the answer's number, the answer, and that it is not "accepted".
@@ -177,11 +178,11 @@ module _ (schema : List ℕ) where
     plain-turned limit e q t = concept-turned limit noMarks e q t
 
     pub state-turned : {n : ℕ} {a : StateAnswer} → n ≡ stateNumber a → a ≡ stateAnswer s w
-        → OneOf (1 ∷ 2 ∷ 3 ∷ 4 ∷ []) (tagOf State.the-type a) → Turned n (stateRefusal schema w)
+        → OneOf (1 ∷ 2 ∷ 3 ∷ 4 ∷ 5 ∷ []) (tagOf State.the-type a) → Turned n (stateRefusal schema w)
     state-turned {a = a} e q t = (rw (e, q, z), rw (q, z) at (state-not-accepted a t))
 
     pub choice-turned : (query : List ℕ) {marks n : ℕ} {a : StateAnswer} → marks ≡ usedMarks query → n ≡ stateNumber a → a ≡ stateAnswer (allowing marks s) w
-        → OneOf (1 ∷ 2 ∷ 3 ∷ 4 ∷ []) (tagOf State.the-type a) → Turned n (choiceRefusal schema query w)
+        → OneOf (1 ∷ 2 ∷ 3 ∷ 4 ∷ 5 ∷ []) (tagOf State.the-type a) → Turned n (choiceRefusal schema query w)
     choice-turned query {a = a} u e q t = (rw (e, q, z, u), rw (q, z, u) at (state-not-accepted a t))
 
 pub lent-turned : (needed : ℕ) (lent : List ℕ) → length lent < needed → Turned 11 (lentRefusal needed lent)
@@ -253,7 +254,7 @@ module _ (schema : List ℕ) where
 
   accepted-state : (s : Signature) (state : List ℕ) → stateNumber (stateAnswer s state) ≡ 0 → AcceptedState s state
   unfolding stateAnswer
-  accepted-state s state e = let z = faultless-state s state e in rw (z .0, z .1, z .2, z .3)
+  accepted-state s state e = let z = faultless-state s state e in rw (z .0, z .1, z .2, z .3, z .4)
 
   pub passed-state : (state : List ℕ) → stateRefusal schema state ≡ 0 → AcceptedState (signatureOf schema) state
   passed-state state e = accepted-state (signatureOf schema) state e

@@ -9,9 +9,9 @@ use Rattle.records.specs.declared.concept.ConceptAnswer.the-variants as 
 use Rattle.records.specs.declared.state.StateAnswer.the-variants as state
 use Rattle.records.specs.SchemaRecord.{signatureOf}
 use Rattle.records.specs.SchemaRefusal.{refusal-1, refusal-14, refusal-2, schemaAnswer}
-use Rattle.records.specs.Helpers.Scan.{contentAnswer}
+use Rattle.records.specs.Helpers.Scan.{contentAnswer, sortedAnswer}
 use Rattle.records.specs.ConceptRefusal.{refusal-3, refusal-4, conceptAnswer}
-use Rattle.records.specs.StateRefusal.{refusal-7, refusal-8, refusal-9, refusal-10, stateAnswer}
+use Rattle.records.specs.StateRefusal.{refusal-7, refusal-8, refusal-9, refusal-15, refusal-10, stateAnswer}
 
 module _ (w : List ℕ) where
   pub answer-1 : So (refusal-1 w) → schema.BadShape ≡ schemaAnswer w
@@ -44,10 +44,10 @@ module _ (s : Signature) (w : List ℕ) where
   unfolding stateAnswer
   answer-9 e f h = rw (e, f, h)
 
-  pub answer-10 : refusal-7 w ≡ false → refusal-8 s w ≡ false → refusal-9 w ≡ false → So (refusal-10 s w) → state.BadConstants ≡ stateAnswer s w
+  pub answer-past-9 : refusal-7 w ≡ false → refusal-8 s w ≡ false → refusal-9 w ≡ false → sortedAnswer (refusal-15 w) (refusal-10 s w) ≡ stateAnswer s w
   unfolding stateAnswer
-  answer-10 e f g h = rw (e, f, g, h)
+  answer-past-9 e f g = rw (e, f, g)
 
-  pub state-accepted : refusal-7 w ≡ false → refusal-8 s w ≡ false → refusal-9 w ≡ false → refusal-10 s w ≡ false → state.Accepted ≡ stateAnswer s w
+  pub state-accepted : refusal-7 w ≡ false → refusal-8 s w ≡ false → refusal-9 w ≡ false → refusal-15 w ≡ false → refusal-10 s w ≡ false → state.Accepted ≡ stateAnswer s w
   unfolding stateAnswer
-  state-accepted e f g h = rw (e, f, g, h)
+  state-accepted e f g h k = rw (e, f, g, h, k)

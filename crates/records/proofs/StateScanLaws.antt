@@ -3,9 +3,9 @@
 use Prim.Native.Nat.{ℕ, zero, suc, _+_, _-_, _≤_, _<_}
 use mathlib.Core.Bool.{Bool, true, false, So, cond, not, _&&_, _||_, false≢true, Bool·not-not}
 use mathlib.Core.List.{List}
-use mathlib.Core.Path.{_≡_, refl, ap, sym, _∙_}
+use mathlib.Core.Path.{_≡_, refl, ap, sym, subst, _∙_}
 use mathlib.Core.Logic.{⊎-elim}
-use native.Mathlib.Nat.{le-of-eq, le-of-lt}
+use native.Mathlib.Nat.{le-of-eq, le-of-lt, le-antisymm}
 use native.Mathlib.Numerals.{add-one, sub-one}
 use native.Mathlib.Decide.{ℕ-discrete, decLt}
 use native.Mathlib.Omega.{arith}
@@ -18,7 +18,7 @@ use Rattle.records.specs.Finite.{any, all, count, least}
 use Rattle.records.specs.Layout.{stateLayout, entries, constantKinds, markKinds, factKinds, attributeKinds, rightAt, maxConstants, maxMarks}
 use Rattle.records.specs.StateRecord.{kindAt, objectAt, objects, says, stateOf}
 use Rattle.records.specs.StateRefusal.{ascends, descends, faultyFact, declaresKind, namesAt, misnames, marksAt, mismarks, refusal-8, refusal-9, refusal-10}
-use Rattle.records.specs.Helpers.Scan.{followsAt, slots, slotOf, namedIn, misnamedAt, misnamed, mismarkedAt, mismarked}
+use Rattle.records.specs.Helpers.Scan.{lastPasses, followsAt, slots, slotOf, namedIn, misnamedAt, misnamed, mismarkedAt, mismarked}
 use Rattle.records.specs.Marks.{allows}
 use Rattle.records.specs.State.{clashing, repeats}
 use Rattle.records.proofs.General.BoolLaws.{or-false-left, or-false-right, or-left, or-true-cases, and-left, and-right, and-both, not-both, false-of}
@@ -26,13 +26,13 @@ use Rattle.records.proofs.General.FiniteLaws.{any-zero, any-still, any-
 
 -- Order.
 
-pub follows-later : (w : List ℕ) (i : ℕ) → (i ≡ 0 → ⊥) → followsAt w i ≡ ascends w (i - 1)
-unfolding followsAt
-follows-later w zero h = absurd (h refl)
-follows-later w (suc i) h = rw sub-one
+pub last-later : (f : ℕ → Bool) (i : ℕ) → (i ≡ 0 → ⊥) → lastPasses f i ≡ f (i - 1)
+unfolding lastPasses
+last-later f zero h = absurd (h refl)
+last-later f (suc i) h = rw sub-one
 
 pub order-is : (w : List ℕ) (n : ℕ) → all n (followsAt w) ≡ not (any (n - 1) (descends w))
-unfolding followsAt all any
+unfolding lastPasses all any
 order-is w zero = refl
 order-is w (suc zero) = refl
 order-is w (suc (suc n)) = rw (order-is w (suc n), sub-one (suc n), sub-one (suc (suc n))) (join (any n (descends w)) (ascends w n))
@@ -196,6 +196,10 @@ module _ (s : Signature) (w : List ℕ) where
           pick : Dec (k < suc slots) → _≡_ {A = ℕ} (getD (replicate (suc slots) 0) k 0) 0
           pick (yes l) = getD-replicate (suc slots) k 0 0 l
           pick (no n) = List·getD-eq-default (replicate (suc slots) 0) 0 {n = k} (omega arith)
+
+  pub kept-all : {i n : ℕ} {asc : Bool} {counts named : List ℕ} → Kept s w i asc counts named → i ≤ n → n ≤ i → n ≡ entries stateLayout w
+      → Kept s w (entries stateLayout w) asc counts named
+  kept-all {asc = asc} {counts} {named} z a b e = subst (λ (m : ℕ). Kept s w m asc counts named) (le-antisymm a b ∙ e) z
 
   module _ {asc : Bool} {counts named : List ℕ} (z : Kept s w (entries stateLayout w) asc counts named) where
     pub kept-8 : refusal-8 s w ≡ false

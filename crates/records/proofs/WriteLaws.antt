@@ -1,14 +1,14 @@
 -- What the lent words are after each part of the record has been written to the words from a place to the end.
 use Prim.Native.Nat.{ℕ, _+_, _-_, _*_, _≤_}
 use native.Mathlib.Omega.{arith}
-use mathlib.Core.List.{List, [], _∷_, _++_, map, append-nil, append-assoc}
-use mathlib.Core.Path.{_≡_, refl, sym, ap, ap₂, _∙_}
-use lib.ListN.{length, take, drop, set, length-map, length-set, length-drop, drop-of-length-le}
-use lib.Seq.{take-at, drop-at, drop-drop, drop-set-lt}
+use mathlib.Core.List.{List, _++_, map, append-nil, append-assoc}
+use mathlib.Core.Path.{_≡_, refl, sym, ap, _∙_}
+use lib.ListN.{length, take, drop, length-map, length-drop, drop-of-length-le}
+use lib.Seq.{take-at, drop-at, drop-drop, sets, length-sets, sets-eq}
 use borrow.Rule.Slice.PartAt.{part-to-end}
 use borrow.Rule.Slice.PartMut.{midOf, putMid}
 use Rattle.records.specs.Layout.{stateLayout, lengthFor}
-use Rattle.records.specs.Encoding.{recordOf, leftWord, rightWord, stateSizes, stateRecord}
+use Rattle.records.specs.Encoding.{recordOf, leftWord, rightWord, classFactsIn, stateSizes, stateRecord}
 use Rattle.records.proofs.EncodingLaws.{state-words}
 
 -- the words from place a to the end, lent and given back as ys
@@ -40,30 +40,32 @@ record-back left right sizes l lent w part k p q r =
     rest-back w k part ∙ rw (p, r, part-to-end w k, q, drop-drop (2 * length l) k lent) (simp append-assoc)
 
 -- The state's sizes.
-abbrev pub sized : List ℕ → ℕ → ℕ → List ℕ
-sized lent x y = set (set lent 0 x) 1 y
+abbrev pub sized : List ℕ → ℕ → ℕ → ℕ → List ℕ
+sized lent x y z = sets lent 0 (stateSizes x y z)
 
-pub sized-length : (lent : List ℕ) (x y : ℕ) → length (sized lent x y) ≡ length lent
-sized-length lent x y = length-set (set lent 0 x) 1 y ∙ length-set lent 0 x
+module _ (lent : List ℕ) (x y z : ℕ) where
+  abbrev sizes : List ℕ
+  sizes = stateSizes x y z
 
-sized-front : (lent : List ℕ) (x y : ℕ) → 2 ≤ length lent → take 2 (sized lent x y) ≡ stateSizes x y
-sized-front [] x y h = absurd (omega arith)
-sized-front (a ∷ []) x y h = absurd (omega arith)
-sized-front (a ∷ b ∷ lent) x y h = refl
+  abbrev w : List ℕ
+  w = sized lent x y z
 
-sized-rest : (lent : List ℕ) (x y : ℕ) → drop 2 (sized lent x y) ≡ drop 2 lent
-sized-rest lent x y = drop-set-lt 2 (set lent 0 x) 1 y (omega arith) ∙ drop-set-lt 2 lent 0 x (omega arith)
+  pub sized-length : length w ≡ length lent
+  sized-length = length-sets lent 0 sizes
 
-pub sized-room : (lent : List ℕ) (x y n : ℕ) → lengthFor stateLayout n ≤ length lent → 2 * n ≤ length (midOf 2 (length (sized lent x y) - 2) (sized lent x y))
-sized-room lent x y n h =
-    let w = sized lent x y in
-    rw (part-to-end w 2) (omega (arith, state-words n, length-drop 2 w, sized-length lent x y))
+  sized-front : length sizes ≤ length lent → take (length sizes) w ≡ sizes
+  sized-front h = ap (take (length sizes)) (sets-eq sizes lent 0 h) ∙ take-at sizes (drop (length sizes) lent) (length sizes) refl
 
-pub write-all : (n : ℕ) (l lent : List ℕ) (x y : ℕ) (part : List ℕ) → lengthFor stateLayout (length l) ≤ length lent → x ≡ n → y ≡ length l
-    → part ≡ map leftWord l ++ map rightWord l ++ drop (2 * length l) (midOf 2 (length (sized lent x y) - 2) (sized lent x y))
-    → putMid 2 (length (sized lent x y) - 2) (sized lent x y) part ≡ stateRecord n l ++ drop (2 + 2 * length l) lent
-unfolding stateRecord
-write-all n l lent x y part h p q r =
-    record-back leftWord rightWord (stateSizes n (length l)) l lent (sized lent x y) part 2
-    (sized-front lent x y (omega (arith, state-words (length l))) ∙ ap₂ stateSizes p q)
-    (sized-rest lent x y) r
+  sized-rest : length sizes ≤ length lent → drop (length sizes) w ≡ drop (length sizes) lent
+  sized-rest h = ap (drop (length sizes)) (sets-eq sizes lent 0 h) ∙ drop-at sizes (drop (length sizes) lent) (length sizes) refl
+
+  pub sized-room : (n : ℕ) → lengthFor stateLayout n ≤ length lent → 2 * n ≤ length (midOf (length sizes) (length w - length sizes) w)
+  sized-room n h = rw (part-to-end w (length sizes)) (omega (arith, state-words n, length-drop (length sizes) w, sized-length))
+
+  pub write-all : (n : ℕ) (l part : List ℕ) → lengthFor stateLayout (length l) ≤ length lent → x ≡ n → y ≡ length l → z ≡ classFactsIn l
+      → part ≡ map leftWord l ++ map rightWord l ++ drop (2 * length l) (midOf (length sizes) (length w - length sizes) w)
+      → putMid (length sizes) (length w - length sizes) w part ≡ stateRecord n l ++ drop (length sizes + 2 * length l) lent
+  unfolding stateRecord
+  write-all n l part h p q r e =
+      let room : length sizes ≤ length lent = omega (arith, state-words (length l)) in
+      record-back leftWord rightWord (stateSizes n (length l) (classFactsIn l)) l lent w part (length sizes) (sized-front room ∙ rw (p, q, r)) (sized-rest room) e

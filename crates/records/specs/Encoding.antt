@@ -1,13 +1,15 @@
 -- Document 01, "Records", the other way: a record from its sizes and its entries. That it reads back as these is proved once,
 -- over the layout (proofs/EncodingLaws.antt).
 use Prim.Native.Nat.{ℕ, _+_, _*_, _/_, _%_}
+use mathlib.Core.Bool.{Bool}
 use mathlib.Core.List.{List, [], _∷_, _++_, map}
+use lib.Dec.{ltb}
 use lib.ListN.{length, getD}
 use Rattle.records.specs.declared.schema.Signature.{Signature}
 use Rattle.records.specs.declared.schema.Axiom.{Axiom}
 use Rattle.records.specs.declared.schema.Axiom.the-variants.{Subclass, Typing, Necessary, Single, Relates}
 use Rattle.records.specs.Finite.{count}
-use Rattle.records.specs.Layout.{bytePart, objectPart, wordPart}
+use Rattle.records.specs.Layout.{bytePart, objectPart, wordPart, attributeKinds}
 use Rattle.records.specs.ConceptRecord.{tokenOf}
 use Rattle.records.specs.ConceptRefusal.{isStep}
 
@@ -62,10 +64,17 @@ leftWord f = f / wordPart
 abbrev pub rightWord : ℕ → ℕ
 rightWord f = f % wordPart
 
+-- the fact puts its object in a class
+abbrev pub classFact : ℕ → Bool
+classFact f = ltb (leftWord f / objectPart) attributeKinds
+
+unfoldable pub classFactsIn : List ℕ → ℕ
+classFactsIn facts = count (length facts) λ i. classFact (getD facts i 0)
+
 -- the size words, for so many facts
-abbrev pub stateSizes : ℕ → ℕ → List ℕ
-stateSizes objects facts = objects ∷ facts ∷ []
+abbrev pub stateSizes : ℕ → ℕ → ℕ → List ℕ
+stateSizes objects facts classFacts = objects ∷ facts ∷ classFacts ∷ []
 
 -- of n objects with these facts
 unfoldable pub stateRecord : ℕ → List ℕ → List ℕ
-stateRecord n facts = recordOf leftWord rightWord (stateSizes n (length facts)) facts
+stateRecord n facts = recordOf leftWord rightWord (stateSizes n (length facts) (classFactsIn facts)) facts

@@ -16,9 +16,9 @@ schemaLayout = record { sizes = 5; counter = 3 }
 unfoldable pub conceptLayout : Layout
 conceptLayout = record { sizes = 2; counter = 0 }
 
--- objects, facts
+-- objects, facts, class facts (document 02, note 7)
 unfoldable pub stateLayout : Layout
-stateLayout = record { sizes = 2; counter = 1 }
+stateLayout = record { sizes = 3; counter = 1 }
 
 -- a size word, 0 past the end
 unfoldable pub sizeAt : List ℕ → ℕ → ℕ

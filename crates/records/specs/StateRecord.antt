@@ -2,7 +2,7 @@
 use Prim.Native.Nat.{ℕ, _+_, _/_, _%_}
 use mathlib.Core.List.{List}
 use mathlib.Core.Bool.{Bool, _&&_}
-use lib.Dec.{eqb}
+use lib.Dec.{eqb, ltb}
 use Rattle.records.specs.Finite.{any, least}
 use Rattle.records.specs.State.{State}
 use Rattle.records.specs.Layout.{stateLayout, sizeAt, entries, leftAt, rightAt, objectPart, attributeKinds, constantKinds, markKinds}
@@ -10,12 +10,20 @@ use Rattle.records.specs.Layout.{stateLayout, sizeAt, entries, leftAt, r
 unfoldable pub objects : List ℕ → ℕ
 objects w = sizeAt w 0
 
+-- how many of the facts are class facts, as the record says
+unfoldable pub classFacts : List ℕ → ℕ
+classFacts w = sizeAt w 2
+
 -- Left is a kind and an object.
 unfoldable pub kindAt : List ℕ → ℕ → ℕ
 kindAt w i = leftAt stateLayout w i / objectPart
 
 unfoldable pub objectAt : List ℕ → ℕ → ℕ
 objectAt w i = leftAt stateLayout w i % objectPart
+
+-- Fact i is a class fact: it puts its object in a class.
+unfoldable pub isClassFact : List ℕ → ℕ → Bool
+isClassFact w i = ltb (kindAt w i) attributeKinds
 
 -- some fact is of this kind and object
 unfoldable pub says : List ℕ → ℕ → ℕ → Bool

@@ -11,7 +11,7 @@ use Rattle.records.specs.declared.state.StateAnswer.the-variants as stat
 use Rattle.records.specs.Finite.{any, count}
 use Rattle.records.specs.State.{repeats}
 use Rattle.records.specs.Layout.{stateLayout, entries, leftAt, rightAt, maxObjects, maxFacts, attributeKinds, constantKinds, markKinds, maxMarks}
-use Rattle.records.specs.StateRecord.{objects, kindAt, objectAt, stateOf}
+use Rattle.records.specs.StateRecord.{objects, classFacts, kindAt, objectAt, isClassFact, stateOf}
 use Rattle.records.specs.Marks.{allows}
 use Rattle.records.specs.Shape.{misshapen}
 
@@ -55,6 +55,10 @@ descends w i = not (ascends w i)
 unfoldable pub refusal-9 : List ℕ → Bool
 refusal-9 w = any (entries stateLayout w - 1) (descends w)
 
+-- 15. The third size word is not the number of the class facts. (Document 02, note 7.)
+unfoldable pub refusal-15 : List ℕ → Bool
+refusal-15 w = not (eqb (classFacts w) (count (entries stateLayout w) (isClassFact w)))
+
 -- fact i gives constant a its object
 abbrev pub namesAt : List ℕ → ℕ → ℕ → Bool
 namesAt w a i = eqb (kindAt w i) (constantKinds + a)
@@ -82,14 +86,16 @@ stateAnswer s w =
     cond (refusal-7 w) state.BadShape
     (cond (refusal-8 s w) state.BadFact
     (cond (refusal-9 w) state.BadOrder
+    (cond (refusal-15 w) state.BadClassFacts
     (cond (refusal-10 s w) state.BadConstants
-    state.Accepted)))
+    state.Accepted))))
 
 abbrev pub stateNumber : StateAnswer → ℕ
 stateNumber state.Accepted = 0
 stateNumber state.BadShape = 7
 stateNumber state.BadFact = 8
 stateNumber state.BadOrder = 9
+stateNumber state.BadClassFacts = 15
 stateNumber state.BadConstants = 10
 
 -- A record is accepted if it gets none of its refusals.

@@ -9,22 +9,28 @@ use crate::marks::MAX_MARKS;
 use crate::marks::allows;
 use crate::schema::Signature;
 use crate::schema::differ;
-ghost use mathlib.Core.Bool.{_||_};
+ghost use mathlib.Core.Bool.{_||_, false};
 ghost use mathlib.Core.Path.{_≡_};
 ghost use Prim.Native.Nat.{suc, _<_, _^_};
 ghost use lib.ListN.{length};
 ghost use Rattle.records.specs.Helpers.Word.{IsWord, IsLayout};
 ghost use Rattle.records.specs.Layout.{entries as entriesOf, stateLayout};
-ghost use Rattle.records.specs.StateRecord.{objects as objectsOf, kindAt, objectAt};
-ghost use Rattle.records.specs.StateRefusal.{refusal-7, declaresKind, suitsKind, faultyFact, ascends as ascendsAt, stateAnswer, stateNumber};
-ghost use Rattle.records.specs.Helpers.Scan.{followsAt, slots, slotOf, namedIn, misnamed as misnamedIn, mismarked as mismarkedIn};
+ghost use Rattle.records.specs.StateRecord.{objects as objectsOf, classFacts as classFactsOf, kindAt, objectAt, isClassFact};
+ghost use Rattle.records.specs.StateRefusal.{refusal-7, refusal-9, refusal-15, declaresKind, suitsKind, faultyFact, ascends as ascendsAt, stateAnswer, stateNumber};
+ghost use Rattle.records.specs.Helpers.Scan.{lastPasses, followsAt, sortedAnswer, slots, slotOf, namedIn, misnamed as misnamedIn, mismarked as mismarkedIn};
 ghost use Rattle.records.specs.State.{repeats as repeatsIn};
 
 pub const MAX_OBJECTS: usize = 480;
 
 pub const MAX_FACTS: usize = 15_384;
-// Objects, facts.
-pub const STATE_SIZES: usize = 2;
+// The size words: where each stands, and how many there are.
+pub const AT_OBJECTS: usize = 0;
+
+pub const AT_FACTS: usize = 1;
+
+pub const AT_CLASS_FACTS: usize = 2;
+
+pub const STATE_SIZES: usize = 3;
 // The most words of an accepted record.
 pub const STATE_WORDS: usize = STATE_SIZES + 2 * MAX_FACTS;
 // A fact's left word is its kind times this plus its object.
@@ -47,6 +53,7 @@ pub enum StateAnswer {
     BadShape,
     BadFact,
     BadOrder,
+    BadClassFacts,
     BadConstants,
 }
 
@@ -60,6 +67,7 @@ impl StateAnswer {
             StateAnswer::BadShape => 7,
             StateAnswer::BadFact => 8,
             StateAnswer::BadOrder => 9,
+            StateAnswer::BadClassFacts => 15,
             StateAnswer::BadConstants => 10,
         }
     }
@@ -70,7 +78,7 @@ pub fn state_layout() -> Layout
 {
     Layout {
         sizes: STATE_SIZES,
-        counter: 1,
+        counter: AT_FACTS,
     }
 }
 
@@ -83,7 +91,14 @@ pub fn facts(words: &[u16]) -> usize
 pub fn objects(words: &[u16]) -> usize
     ensures { λ r. ⌜ IsWord (objectsOf (now (words .entry))) r ⌝ }
 {
-    word(words, 0)
+    word(words, AT_OBJECTS)
+}
+
+// How many of the facts are class facts, as the record says.
+pub fn class_facts(words: &[u16]) -> usize
+    ensures { λ r. ⌜ IsWord (classFactsOf (now (words .entry))) r ⌝ }
+{
+    word(words, AT_CLASS_FACTS)
 }
 
 pub fn kind_at(words: &[u16], i: usize) -> usize
@@ -157,6 +172,36 @@ fn follows(words: &[u16], i: usize) -> bool
     if i == 0 { true } else { ascends(words, i - 1) }
 }
 
+// Fact `i` is of a class.
+fn is_class_fact(words: &[u16], i: usize) -> bool
+    requires { ⌜ i < 2 ^ 16 ⌝ }
+    ensures { λ r. ⌜ r ≡ isClassFact (now (words .entry)) i ⌝ }
+{
+    kind_at(words, i) < ATTRIBUTE_KINDS
+}
+
+// No fact stands before place `i`, or the last of them is of a class.
+fn class_up_to(words: &[u16], i: usize) -> bool
+    requires { ⌜ i < 2 ^ 16 ⌝ }
+    ensures { λ r. ⌜ r ≡ lastPasses (isClassFact (now (words .entry))) i ⌝ }
+{
+    if i == 0 {
+        true
+    } else {
+        is_class_fact(words, i - 1)
+    }
+}
+
+// Refusal 15. Facts that ascend begin with those of classes, so the two at the end of the count tell whether it is right.
+fn bad_class_facts(words: &[u16]) -> bool
+    requires { ⌜ refusal-9 (now words) ≡ false ⌝ }
+    ensures { λ r. ⌜ r ≡ refusal-15 (now (words .entry)) ⌝ }
+{
+    let n = facts(words);
+    let end = class_facts(words);
+    (n < end) | !class_up_to(words, end) | ((end < n) & is_class_fact(words, end))
+}
+
 // The constant or mark to which a fact of this kind gives its object, or the place of all other facts.
 fn slot(kind: usize) -> usize
     ensures { λ r. ⌜ (r ≡ slotOf kind) × (r < suc slots) ⌝ }
@@ -226,6 +271,19 @@ fn bad_shape(words: &[u16]) -> bool
     (MAX_OBJECTS < objects(words)) | (MAX_FACTS < n) | misshapen(state_layout(), words)
 }
 
+// Refusal 15, then 10, or accepted.
+fn answer(miscounted: bool, misnamed: bool) -> StateAnswer
+    ensures { λ r. ⌜ r ≡ sortedAnswer miscounted misnamed ⌝ }
+{
+    if miscounted {
+        return StateAnswer::BadClassFacts;
+    }
+    if misnamed {
+        return StateAnswer::BadConstants;
+    }
+    StateAnswer::Accepted
+}
+
 pub fn check_state(s: Signature, words: &[u16]) -> StateAnswer
     ensures { λ r. ⌜ r ≡ stateAnswer s (now (words .entry)) ⌝ }
 {
@@ -249,8 +307,5 @@ pub fn check_state(s: Signature, words: &[u16]) -> StateAnswer
     if !ascending {
         return StateAnswer::BadOrder;
     }
-    if bad_names(s, &counts, &named) {
-        return StateAnswer::BadConstants;
-    }
-    StateAnswer::Accepted
+    answer(bad_class_facts(words), bad_names(s, &counts, &named))
 }

@@ -112,18 +112,10 @@ test-same false false f g = refl
 pub eqb-same : (a b c d : ℕ) → (a ≡ b → c ≡ d) → (c ≡ d → a ≡ b) → eqb a b ≡ eqb c d
 eqb-same a b c d f g = test-same (eqb a b) (eqb c d) (λ t. eq-eqb c d (f (eqb-true a b t))) (λ t. eq-eqb a b (g (eqb-true c d t)))
 
--- a choice by three or four tests that comes to none of what they choose: no test passes
-pub none-of-three : {A : Type 0} (X : A → Type 0) (x y z v : A) → (X x → ⊥) → (X y → ⊥) → (X z → ⊥)
-    → (a b c : Bool) → X (cond a x (cond b y (cond c z v))) → (a ≡ false) × (b ≡ false) × (c ≡ false)
-none-of-three X x y z v k l m true b c e = absurd (k e)
-none-of-three X x y z v k l m false true c e = absurd (l e)
-none-of-three X x y z v k l m false false true e = absurd (m e)
-none-of-three X x y z v k l m false false false e = (refl, refl, refl)
-
-pub none-of-four : {A : Type 0} (X : A → Type 0) (w x y z v : A) → (X w → ⊥) → (X x → ⊥) → (X y → ⊥) → (X z → ⊥)
-    → (a b c d : Bool) → X (cond a w (cond b x (cond c y (cond d z v)))) → (a ≡ false) × (b ≡ false) × (c ≡ false) × (d ≡ false)
-none-of-four X w x y z v k l m n true b c d e = absurd (k e)
-none-of-four X w x y z v k l m n false b c d e = let z = none-of-three X x y z v l m n b c d e in (refl, z .0, z .1, z .2)
+-- a choice that does not come to the first of two: the test fails
+pub not-first : {A : Type 0} (X : A → Type 0) (x y : A) → (X x → ⊥) → (a : Bool) → X (cond a x y) → (a ≡ false) × X y
+not-first X x y k true e = absurd (k e)
+not-first X x y k false e = (refl, e)
 
 -- a test as a number
 pub byte-small : (b : Bool) → boolByte b ≤ 1

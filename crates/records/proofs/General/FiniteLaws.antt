@@ -6,6 +6,8 @@ use mathlib.Core.Logic.{⊎-elim, _↔_}
 use native.Mathlib.Nat.{not-suc-le-zero, eq-or-lt-of-le, le-of-suc-le-suc}
 use native.Mathlib.Numerals.{add-one}
 use native.Mathlib.Omega.{arith}
+use borrow.Author.Tests.{lt-ltb, le-ltb}
+use lib.Dec.{ltb}
 use mir.Val.{boolByte}
 use Rattle.records.specs.Finite.{all, any, count, least}
 use Rattle.records.proofs.General.BoolLaws.{or-false-left, or-false-right, or-true-cases, or-left, or-right, and-left, and-right, and-both, not-both}
@@ -127,6 +129,22 @@ module _ (f : ℕ → Bool) where
   unfolding count
   none-count zero h = refl
   none-count (suc n) h = rw (h n (omega arith)) (none-count n (λ i l. h i (omega arith)))
+
+  -- where what passes comes first, it ends at the count
+  pub count-first : (n : ℕ) → ((i j : ℕ) → i ≤ j → j < n → So (f j) → So (f i)) → (i : ℕ) → i < n → f i ≡ ltb i (count n f)
+  unfolding count
+  count-first zero down i l = absurd (not-suc-le-zero l)
+  count-first (suc n) down i l = pick (f n) refl (count-first n (λ i j h m. down i j h (omega arith)))
+    where
+      full : So (f n) → ((i : ℕ) → i < n → f i ≡ ltb i (count n f)) → count n f ≡ n
+      full p h =
+          ⊎-elim (λ e. e)
+          (λ m. absurd (not-both (f (count n f)) (down (count n f) n (count-le n) (omega arith) p) (h (count n f) m ∙ le-ltb (count n f) (count n f) (omega arith))))
+          (eq-or-lt-of-le (count-le n))
+
+      pick : (t : Bool) → f n ≡ t → ((i : ℕ) → i < n → f i ≡ ltb i (count n f)) → f i ≡ ltb i (cond t (suc (count n f)) (count n f))
+      pick true p h = rw (full p h) (down i n (le-of-suc-le-suc l) (omega arith) p ∙ sym (lt-ltb i (suc n) l))
+      pick false p h = ⊎-elim (λ e. rw e (p ∙ sym (le-ltb n (count n f) (count-le n)))) (λ m. h i m) (eq-or-lt-of-le (le-of-suc-le-suc l))
 
   -- those past the last that passes do not count
   pub count-past : (i n : ℕ) → i ≤ n → ((j : ℕ) → i ≤ j → j < n → f j ≡ false) → count n f ≡ count i f

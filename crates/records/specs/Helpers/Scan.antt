@@ -19,6 +19,8 @@ use Rattle.records.specs.declared.scan.Scan.{Scan}
 use Rattle.records.specs.declared.named.Named.{Named}
 use Rattle.records.specs.declared.concept.ConceptAnswer.{ConceptAnswer}
 use Rattle.records.specs.declared.concept.ConceptAnswer.the-variants as concept
+use Rattle.records.specs.declared.state.StateAnswer.{StateAnswer}
+use Rattle.records.specs.declared.state.StateAnswer.the-variants as state
 use Rattle.records.specs.Finite.{any, setOf}
 use Rattle.records.specs.State.{repeats}
 use Rattle.records.specs.Layout.{maxClasses, maxAttributes, maxConstants, maxMarks, constantKinds, factKinds}
@@ -83,10 +85,18 @@ scanAnswer limit n σ =
     (cond (not (eqb (σ .steps) n) || ltb limit (σ .steps)) concept.BadSteps
     (concept.Accepted (namedBy σ)))
 
+-- the last number below n passes, if there is one
+unfoldable pub lastPasses : (ℕ → Bool) → ℕ → Bool
+lastPasses f zero = true
+lastPasses f (suc i) = f i
+
 -- fact i is the first, or stands after the one before it
-unfoldable pub followsAt : List ℕ → ℕ → Bool
-followsAt w zero = true
-followsAt w (suc i) = ascends w i
+abbrev pub followsAt : List ℕ → ℕ → Bool
+followsAt w i = lastPasses (ascends w) i
+
+-- refusal 15, then 10, of a state whose facts ascend, by the two tests
+abbrev pub sortedAnswer : Bool → Bool → StateAnswer
+sortedAnswer miscounted misnamed = cond miscounted state.BadClassFacts (cond misnamed state.BadConstants state.Accepted)
 
 -- the slots of constants and marks, the marks after the constants; one more is of all other facts
 abbrev pub slots : ℕ

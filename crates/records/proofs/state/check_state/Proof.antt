@@ -1,14 +1,13 @@
 -- The scan keeps the faults, the order and the names of the facts passed (Kept of StateScanLaws).
-use Prim.Native.Nat.{_-_, _≤_, ℕ}
+use Prim.Native.Nat.{_-_, _≤_}
 use Rattle.records.proofs.General.FiniteLaws.{any-of}
-use Rattle.records.proofs.RefusalLaws.{answer-10, answer-7, answer-8, answer-9, state-accepted}
-use Rattle.records.proofs.StateScanLaws.{Kept, kept-10, kept-8, kept-9, kept-more, kept-none}
-use Rattle.records.specs.Layout.{entries, stateLayout}
+use Rattle.records.proofs.RefusalLaws.{answer-7, answer-8, answer-9, answer-past-9}
+use Rattle.records.proofs.StateScanLaws.{Kept, kept-10, kept-8, kept-9, kept-all, kept-more, kept-none}
 use Rattle.records.specs.StateRefusal.{refusal-8}
+use Rattle.records.specs.Helpers.Scan.{sortedAnswer}
 use borrow.Author.Needs.{needs}
-use mathlib.Core.Path.{_∙_, subst, sym}
+use mathlib.Core.Path.{_∙_, ap₂, sym}
 use native.Mathlib.Omega.{arith}
-use native.Mathlib.Nat.{le-antisymm}
 use Rattle.records.proofs.state.check_state.Statement.{statement}
 use Rattle.records.proofs.state.check_state.Tie as tie
 
@@ -89,30 +88,26 @@ loop-again c = (
 
 returns-3 : tie.Need-returns-3 Inv-loop μ-loop
 returns-3 c =
-    let z : Kept (c .before .before .before .before .before .before .before .args .s) (c .before .before .before .before .before .before .before .args .words .now) (entries stateLayout (c .before .before .before .before .before .before .before .args .words .now)) (c .before .before .loop .ascending) (c .before .before .loop .counts) (c .before .before .loop .named) =
-    subst (λ (e : ℕ). Kept (c .before .before .before .before .before .before .before .args .s) (c .before .before .before .before .before .before .before .args .words .now) e (c .before .before .loop .ascending) (c .before .before .loop .counts) (c .before .before .loop .named))
-    (le-antisymm (c .before .before .loop .inv .0) (c .before .loop-test .left) ∙ c .before .before .before .facts .ensures .value) (c .before .before .loop .inv .1)
-    in
+    let z = kept-all _ _ (c .before .before .loop .inv .1) (c .before .before .loop .inv .0) (c .before .loop-test .left) (c .before .before .before .facts .ensures .value) in
     answer-9 _ _ (sym (c .before .before .before .before .before .bad-shape .ensures) ∙ c .before .before .before .before .if1 .left) (kept-8 _ _ z) (kept-9 _ _ z ∙ c .if3 .taken)
 
+bad-class-facts-requires : tie.Need-bad-class-facts-requires Inv-loop μ-loop
+bad-class-facts-requires c κs =
+    let z = kept-all _ _ (c .before .before .loop .inv .1) (c .before .before .loop .inv .0) (c .before .loop-test .left) (c .before .before .before .facts .ensures .value) in
+    kept-9 _ _ z ∙ c .if3 .left
+
 bad-names-requires : tie.Need-bad-names-requires Inv-loop μ-loop
-bad-names-requires c κs = (c .before .before .before .before .loop .inv .1 .counters, c .before .before .before .before .loop .inv .1 .places)
+bad-names-requires c κs = (c .before .before .before .before .before .loop .inv .1 .counters, c .before .before .before .before .before .loop .inv .1 .places)
+
+answer-requires : tie.Need-answer-requires Inv-loop μ-loop
+answer-requires c κs = tt
 
 returns-4 : tie.Need-returns-4 Inv-loop μ-loop
 returns-4 c =
-    let z : Kept (c .before .before .before .before .before .before .before .before .before .before .before .args .s) (c .before .before .before .before .before .before .before .before .before .before .before .args .words .now) (entries stateLayout (c .before .before .before .before .before .before .before .before .before .before .before .args .words .now)) (c .before .before .before .before .before .before .loop .ascending) (c .before .before .before .before .before .before .loop .counts) (c .before .before .before .before .before .before .loop .named) =
-    subst (λ (e : ℕ). Kept (c .before .before .before .before .before .before .before .before .before .before .before .args .s) (c .before .before .before .before .before .before .before .before .before .before .before .args .words .now) e (c .before .before .before .before .before .before .loop .ascending) (c .before .before .before .before .before .before .loop .counts) (c .before .before .before .before .before .before .loop .named))
-    (le-antisymm (c .before .before .before .before .before .before .loop .inv .0) (c .before .before .before .before .before .loop-test .left) ∙ c .before .before .before .before .before .before .before .facts .ensures .value) (c .before .before .before .before .before .before .loop .inv .1)
-    in
-    answer-10 _ _ (sym (c .before .before .before .before .before .before .before .before .before .bad-shape .ensures) ∙ c .before .before .before .before .before .before .before .before .if1 .left) (kept-8 _ _ z) (kept-9 _ _ z ∙ c .before .before .before .before .if3 .left) (sym (kept-10 _ _ z) ∙ sym (c .before .bad-names .ensures) ∙ c .if4 .taken)
-
-returns-5 : tie.Need-returns-5 Inv-loop μ-loop
-returns-5 c =
-    let z : Kept (c .before .before .before .before .before .before .before .before .before .before .before .args .s) (c .before .before .before .before .before .before .before .before .before .before .before .args .words .now) (entries stateLayout (c .before .before .before .before .before .before .before .before .before .before .before .args .words .now)) (c .before .before .before .before .before .before .loop .ascending) (c .before .before .before .before .before .before .loop .counts) (c .before .before .before .before .before .before .loop .named) =
-    subst (λ (e : ℕ). Kept (c .before .before .before .before .before .before .before .before .before .before .before .args .s) (c .before .before .before .before .before .before .before .before .before .before .before .args .words .now) e (c .before .before .before .before .before .before .loop .ascending) (c .before .before .before .before .before .before .loop .counts) (c .before .before .before .before .before .before .loop .named))
-    (le-antisymm (c .before .before .before .before .before .before .loop .inv .0) (c .before .before .before .before .before .loop-test .left) ∙ c .before .before .before .before .before .before .before .facts .ensures .value) (c .before .before .before .before .before .before .loop .inv .1)
-    in
-    state-accepted _ _ (sym (c .before .before .before .before .before .before .before .before .before .bad-shape .ensures) ∙ c .before .before .before .before .before .before .before .before .if1 .left) (kept-8 _ _ z) (kept-9 _ _ z ∙ c .before .before .before .before .if3 .left) (sym (kept-10 _ _ z) ∙ sym (c .before .bad-names .ensures) ∙ c .if4 .left)
+    let z = kept-all _ _ (c .before .before .before .before .before .before .before .loop .inv .1) (c .before .before .before .before .before .before .before .loop .inv .0) (c .before .before .before .before .before .before .loop-test .left) (c .before .before .before .before .before .before .before .before .facts .ensures .value) in
+    c .answer .ensures
+    ∙ ap₂ sortedAnswer (c .before .before .before .before .bad-class-facts .ensures) (c .before .bad-names .ensures ∙ kept-10 _ _ z)
+    ∙ answer-past-9 _ _ (sym (c .before .before .before .before .before .before .before .before .before .before .bad-shape .ensures) ∙ c .before .before .before .before .before .before .before .before .before .if1 .left) (kept-8 _ _ z) (kept-9 _ _ z ∙ c .before .before .before .before .before .if3 .left)
 
 pub check-state-spec : {M : Type 1} → statement M
 check-state-spec =
@@ -141,6 +136,7 @@ check-state-spec =
     loop-less
     loop-again
     returns-3
+    bad-class-facts-requires
     bad-names-requires
-    returns-4
-    returns-5)
+    answer-requires
+    returns-4)
