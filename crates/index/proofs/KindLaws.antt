@@ -1,71 +1,25 @@
 -- Where the facts of a kind stand: the facts of an accepted state ascend, so their kinds rise; each step of the halving keeps
 -- the parts; and a test that only facts of the kind pass is settled by the row between its two ends.
-use Prim.Native.Nat.{ℕ, zero, suc, _+_, _≤_, _<_}
+use Prim.Native.Nat.{ℕ, _+_, _≤_, _<_}
 use mathlib.Core.Bool.{Bool, So, false}
 use mathlib.Core.List.{List}
-use mathlib.Core.Logic.{_⊎_, inl, inr, ⊎-elim}
-use mathlib.Core.Path.{_≡_, ap, subst, _∙_}
+use mathlib.Core.Path.{_≡_, subst}
 use native.Mathlib.Decide.{decLt}
-use native.Mathlib.Nat.{le-antisymm, le-of-eq, eq-or-lt-of-le, le-of-suc-le-suc, le-trans}
+use native.Mathlib.Nat.{le-antisymm, le-of-eq}
 use native.Mathlib.Omega.{arith}
-use borrow.Author.Tests.{eqb-true, ltb-true}
-use lib.Dec.{ltb}
 use Rattle.records.specs.declared.schema.Signature.{Signature}
 use Rattle.records.specs.Finite.{any, count}
-use Rattle.records.specs.Layout.{stateLayout, entries, leftAt, rightAt}
+use Rattle.records.specs.Layout.{stateLayout, entries}
 use Rattle.records.specs.StateRecord.{kindAt}
-use Rattle.records.specs.StateRefusal.{AcceptedState, ascends}
-use Rattle.records.proofs.General.BoolLaws.{or-true-cases, and-map, false-of, test-same}
+use Rattle.records.specs.StateRefusal.{AcceptedState}
+use Rattle.records.proofs.General.BoolLaws.{false-of, test-same}
 use Rattle.records.proofs.General.FiniteLaws.{none-any, any-of, any-found, none-count, count-past}
-use Rattle.records.proofs.AcceptedLaws.{passes-9, fact-ascends}
+use Rattle.records.proofs.AcceptedLaws.{passes-9}
+use Rattle.records.proofs.OrderLaws.{kind-grows}
 use Rattle.index.specs.Kinds.{KindsRise, KindParts}
 
--- The facts ascend.
-
-module _ (s : Signature) (w : List ℕ) (ok : AcceptedState s w) where
-  pub ascends-cases : (f : ℕ) → suc f < entries stateLayout w
-      → (leftAt stateLayout w f < leftAt stateLayout w (suc f)) ⊎ ((leftAt stateLayout w f ≡ leftAt stateLayout w (suc f)) × (rightAt stateLayout w f < rightAt stateLayout w (suc f)))
-  unfolding ascends
-  ascends-cases f l =
-      ⊎-elim (λ t. inl (ltb-true _ _ t)) (λ t. inr (and-map (eqb-true _ _) (ltb-true _ _) t))
-      (or-true-cases (ltb (leftAt stateLayout w f) (leftAt stateLayout w (suc f))) _ (fact-ascends w (passes-9 s w ok) f (omega arith)))
-
-  pub left-rises : (f : ℕ) → suc f < entries stateLayout w → leftAt stateLayout w f ≤ leftAt stateLayout w (suc f)
-  left-rises f l = ⊎-elim (λ t. omega arith) (λ t. le-of-eq (t .0)) (ascends-cases f l)
-
-  pub left-grows : (f g : ℕ) → f ≤ g → g < entries stateLayout w → leftAt stateLayout w f ≤ leftAt stateLayout w g
-  left-grows f zero h l = le-of-eq (ap (leftAt stateLayout w) (omega arith))
-  left-grows f (suc g) h l =
-      ⊎-elim (λ e. le-of-eq (ap (leftAt stateLayout w) e)) (λ m. le-trans (left-grows f g (le-of-suc-le-suc m) (omega arith)) (left-rises g l))
-      (eq-or-lt-of-le h)
-
-  -- a later fact stands after an earlier one, by left and then by right
-  fact-grows : (f g : ℕ) → f < g → g < entries stateLayout w
-      → (leftAt stateLayout w f < leftAt stateLayout w g) ⊎ ((leftAt stateLayout w f ≡ leftAt stateLayout w g) × (rightAt stateLayout w f < rightAt stateLayout w g))
-  fact-grows f zero h l = absurd (omega arith)
-  fact-grows f (suc g) h l =
-      ⊎-elim (λ e. rw e (ascends-cases g l))
-      (λ m. ⊎-elim (λ a. inl (omega (arith, a, left-rises g l)))
-      (λ a. ⊎-elim (λ b. inl (omega (arith, a .0, b))) (λ b. inr (a .0 ∙ b .0, omega (arith, a .1, b .1))) (ascends-cases g l))
-      (fact-grows f g m (omega arith)))
-      (eq-or-lt-of-le (le-of-suc-le-suc h))
-
-  -- so no fact stands twice
-  pub fact-once : (f g : ℕ) → f < entries stateLayout w → g < entries stateLayout w
-      → leftAt stateLayout w f ≡ leftAt stateLayout w g → rightAt stateLayout w f ≡ rightAt stateLayout w g → f ≡ g
-  fact-once f g h l p q =
-      elim (decLt f g) [
-        | yes m ↦ absurd (⊎-elim (λ a. omega arith) (λ a. omega (arith, a .1)) (fact-grows f g m l))
-        | no m ↦
-            elim (decLt g f) [
-              | yes k ↦ absurd (⊎-elim (λ a. omega arith) (λ a. omega (arith, a .1)) (fact-grows g f k h))
-              | no k ↦ omega arith
-            ]
-      ]
-
-  pub kinds-rise : KindsRise w
-  unfolding kindAt
-  kinds-rise f g h l = omega (arith, left-grows f g h l)
+pub kinds-rise : (s : Signature) (w : List ℕ) → AcceptedState s w → KindsRise w
+kinds-rise s w ok = kind-grows w (passes-9 s w ok)
 
 -- Each step of the halving keeps the parts.
 

@@ -12,13 +12,13 @@ use Rattle.records.specs.Concept.{class}
 use Rattle.records.specs.Layout.{schemaLayout, conceptLayout, stateLayout, sizeAt, entries, leftAt, rightAt, lengthFor}
 use Rattle.records.specs.SchemaRecord.{signatureOf, axiomKind, axiomOf, schemaOf}
 use Rattle.records.specs.ConceptRecord.{tokenOf, tokenAt, pileAfter, conceptOf}
-use Rattle.records.specs.StateRecord.{objects, kindAt, objectAt, says, saysPair, stateOf}
+use Rattle.records.specs.StateRecord.{objects, classFacts, kindAt, objectAt, isClassFact, says, saysPair, stateOf}
 use Rattle.records.specs.Shape.{misshapen}
 use Rattle.records.specs.SchemaRefusal.{refusal-1, refusal-14, faultyAxiom, refusal-2, schemaAnswer}
 use Rattle.records.specs.ConceptRefusal.{refusal-3, faultyToken, refusal-4, refusal-5, steps, refusal-6, conceptAnswer}
-use Rattle.records.specs.StateRefusal.{refusal-7, faultyFact, refusal-8, ascends, refusal-9, refusal-10, stateAnswer}
+use Rattle.records.specs.StateRefusal.{refusal-7, faultyFact, refusal-8, ascends, refusal-9, refusal-15, refusal-10, stateAnswer}
 use Rattle.records.specs.Outcome.{refusal-12, firstRefusal, outcome}
-use Rattle.records.specs.Encoding.{recordOf, schemaRecord, conceptRecord, stepsIn, stateRecord}
+use Rattle.records.specs.Encoding.{recordOf, schemaRecord, conceptRecord, stepsIn, classFactsIn, stateRecord}
 use Rattle.records.proofs.Examples.{schemaX, stateS, emptyState}
 use Rattle.judge.specs.declared.links.LinksAnswer.{LinksAnswer}
 use Rattle.judge.specs.declared.links.LinksAnswer.the-variants.{Counted, Refused}
@@ -51,9 +51,9 @@ unfolding
     linksByFirst linksBySecond sum outcome firstRefusal refusal-12
     repeats any count least
     schemaLayout conceptLayout stateLayout sizeAt entries leftAt rightAt lengthFor
-    signatureOf axiomKind axiomOf schemaOf tokenOf tokenAt pileAfter conceptOf objects kindAt objectAt says saysPair stateOf
-    recordOf schemaRecord conceptRecord stepsIn stateRecord
+    signatureOf axiomKind axiomOf schemaOf tokenOf tokenAt pileAfter conceptOf objects classFacts kindAt objectAt isClassFact says saysPair stateOf
+    recordOf schemaRecord conceptRecord stepsIn classFactsIn stateRecord
     misshapen refusal-1 refusal-14 faultyAxiom refusal-2 schemaAnswer
     refusal-3 faultyToken refusal-4 refusal-5 steps refusal-6 conceptAnswer
-    refusal-7 faultyFact refusal-8 ascends refusal-9 refusal-10 stateAnswer
+    refusal-7 faultyFact refusal-8 ascends refusal-9 refusal-15 refusal-10 stateAnswer
 persons-straps = (refl, refl, refl, refl)

@@ -17,11 +17,12 @@ use Rattle.records.specs.StateRefusal.{AcceptedState}
 use Rattle.records.proofs.General.BoolLaws.{and-left, and-right, and-both, and-iff, and-three-iff, test-same}
 use Rattle.records.proofs.General.FiniteLaws.{any-iff, count-same}
 use Rattle.records.proofs.General.SumLaws.{sum-same, count-sum, count-keys, count-only}
-use Rattle.records.proofs.AcceptedLaws.{passes-7, objects-few, facts-few}
+use Rattle.records.proofs.AcceptedLaws.{passes-7, passes-9, objects-few, facts-few}
 use Rattle.records.proofs.ExecutableLaws.{eqb-iff}
+use Rattle.records.proofs.OrderLaws.{fact-once}
 use Rattle.records.proofs.FactLaws.{pair-iff, object-inside, second-inside}
 use Rattle.index.specs.BitSet.{bitAt}
-use Rattle.index.proofs.KindLaws.{fact-once, kinds-rise}
+use Rattle.index.proofs.KindLaws.{kinds-rise}
 use Rattle.evaluate.specs.Selection.{Selection}
 use Rattle.judge.specs.Links.{linksByFirst, linksBySecond, firsts}
 use Rattle.judge.specs.Tally.{linkAt, Tallied, Walkable}
@@ -45,7 +46,7 @@ module _ (s : Signature) (w : List ℕ) (ok : AcceptedState s w) (k : ℕ) (set 
       only i j l m p q =
           let (a, r, o) = link-iff d e i .0 p in
           let (b, u, v) = link-iff d e j .0 q in
-          fact-once s w ok i j l m (omega (arith, a .0, o, b .0, v)) (r ∙ sym u)
+          fact-once w (passes-9 s w ok) i j l m (omega (arith, a .0, o, b .0, v)) (r ∙ sym u)
 
       to : So (any (entries stateLayout w) (isLink d e)) → So (bitAt set d && saysPair w k d e)
       to h =

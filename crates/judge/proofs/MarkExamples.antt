@@ -9,14 +9,14 @@ use Rattle.records.specs.State.{repeats}
 use Rattle.records.specs.Layout.{schemaLayout, conceptLayout, stateLayout, sizeAt, entries, leftAt, rightAt, lengthFor, markKinds}
 use Rattle.records.specs.SchemaRecord.{signatureOf, axiomKind, axiomOf, schemaOf}
 use Rattle.records.specs.ConceptRecord.{tokenOf, tokenAt, pileAfter, conceptOf}
-use Rattle.records.specs.StateRecord.{objects, kindAt, objectAt, says, saysPair, stateOf}
+use Rattle.records.specs.StateRecord.{objects, classFacts, kindAt, objectAt, isClassFact, says, saysPair, stateOf}
 use Rattle.records.specs.Shape.{misshapen}
 use Rattle.records.specs.Marks.{markUsed, usedMarks}
 use Rattle.records.specs.SchemaRefusal.{refusal-1, refusal-14, faultyAxiom, refusal-2, schemaAnswer}
 use Rattle.records.specs.ConceptRefusal.{refusal-3, faultyToken, refusal-4, refusal-5, steps, refusal-6, conceptAnswer}
-use Rattle.records.specs.StateRefusal.{refusal-7, faultyFact, refusal-8, ascends, refusal-9, refusal-10, stateAnswer}
+use Rattle.records.specs.StateRefusal.{refusal-7, faultyFact, refusal-8, ascends, refusal-9, refusal-15, refusal-10, stateAnswer}
 use Rattle.records.specs.Outcome.{refusal-11, firstRefusal, outcome}
-use Rattle.records.specs.Encoding.{Words, recordOf, schemaRecord, conceptRecord, stepsIn, fact, stateRecord}
+use Rattle.records.specs.Encoding.{Words, recordOf, schemaRecord, conceptRecord, stepsIn, fact, classFactsIn, stateRecord}
 use Rattle.records.proofs.Examples.{schemaX}
 use Rattle.judge.specs.declared.counterexample.CounterexampleAnswer.{CounterexampleAnswer}
 use Rattle.judge.specs.declared.counterexample.CounterexampleAnswer.the-variants.{No, Yes, Refused}
@@ -72,9 +72,9 @@ unfolding
     finding outcome firstRefusal refusal-11 flags selection
     usedMarks markUsed setOf sum repeats any all count least
     schemaLayout conceptLayout stateLayout sizeAt entries leftAt rightAt lengthFor
-    signatureOf axiomKind axiomOf schemaOf tokenOf tokenAt pileAfter conceptOf objects kindAt objectAt says saysPair stateOf
-    recordOf schemaRecord conceptRecord stepsIn stateRecord
+    signatureOf axiomKind axiomOf schemaOf tokenOf tokenAt pileAfter conceptOf objects classFacts kindAt objectAt isClassFact says saysPair stateOf
+    recordOf schemaRecord conceptRecord stepsIn classFactsIn stateRecord
     misshapen refusal-1 refusal-14 faultyAxiom refusal-2 schemaAnswer
     refusal-3 faultyToken refusal-4 refusal-5 steps refusal-6 conceptAnswer
-    refusal-7 faultyFact refusal-8 ascends refusal-9 refusal-10 stateAnswer
+    refusal-7 faultyFact refusal-8 ascends refusal-9 refusal-15 refusal-10 stateAnswer
 marks-by-hand = ((refl, refl, refl, refl, refl, refl), (refl, refl, refl, refl, refl, refl, refl))

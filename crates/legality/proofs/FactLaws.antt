@@ -12,7 +12,8 @@ use Rattle.records.specs.Layout.{stateLayout, entries, leftAt, rightAt}
 use Rattle.records.specs.StateRecord.{kindAt, objectAt}
 use Rattle.records.specs.StateRefusal.{AcceptedState}
 use Rattle.records.proofs.General.BoolLaws.{and-right, and-both}
-use Rattle.index.proofs.KindLaws.{ascends-cases, left-rises, left-grows}
+use Rattle.records.proofs.AcceptedLaws.{passes-9}
+use Rattle.records.proofs.OrderLaws.{ascends-cases, left-rises, left-grows}
 use Rattle.legality.specs.Breaks.{repeatsLeft}
 
 module _ (s : Signature) (w : List ℕ) (ok : AcceptedState s w) where
@@ -23,7 +24,7 @@ module _ (s : Signature) (w : List ℕ) (ok : AcceptedState s w) where
   repeats-of f (suc g) m l p q =
       let e : suc g - 1 ≡ g = omega arith in
       and-both (ltb 0 (suc g)) _ (lt-ltb 0 (suc g) (omega arith))
-      (rw e (eq-eqb (leftAt stateLayout w g) (leftAt stateLayout w (suc g)) (omega (arith, left-grows s w ok f g (omega arith) (omega arith), left-rises s w ok g l))))
+      (rw e (eq-eqb (leftAt stateLayout w g) (leftAt stateLayout w (suc g)) (omega (arith, left-grows w (passes-9 s w ok) f g (omega arith) (omega arith), left-rises w (passes-9 s w ok) g l))))
 
   -- and there stands another value
   pub repeats-other : (f : ℕ) → f < entries stateLayout w → So (repeatsLeft w f)
@@ -33,4 +34,4 @@ module _ (s : Signature) (w : List ℕ) (ok : AcceptedState s w) where
   repeats-other (suc g) l t =
       let b : suc g - 1 ≡ g = omega arith in
       let e : leftAt stateLayout w g ≡ leftAt stateLayout w (suc g) = eqb-true _ _ (rw b at (and-right (ltb 0 (suc g)) _ t)) in
-      (g, omega arith, (omega arith, omega arith, ⊎-elim (λ p. absurd (omega arith)) (λ p. p .1) (ascends-cases s w ok g l)))
+      (g, omega arith, (omega arith, omega arith, ⊎-elim (λ p. absurd (omega arith)) (λ p. p .1) (ascends-cases w (passes-9 s w ok) g l)))
