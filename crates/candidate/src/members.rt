@@ -13,8 +13,7 @@ ghost use Rattle.candidate.specs.Writing.{Room, Wrote};
 ghost use Rattle.candidate.specs.Facts.{membersIn};
 ghost use Rattle.candidate.specs.Ready.{Sized};
 
-// The objects of a class, with the closing one. The query's edges have no part in it. The class's place is looked up once, for
-// that copies a table.
+// The objects of a class, with the closing one. The query's edges have no part in it.
 fn class_row(
     schema: &[u16],
     objects: &[u64; OBJECTS],

@@ -16,7 +16,7 @@ use Rattle.records.specs.State.{State, Member, Related, Names}
 use Rattle.records.specs.StateRecord.{objects, kindAt, objectAt, stateOf}
 use Rattle.records.specs.StateRefusal.{faultyFact, ascends, descends, namesAt, misnames, marksAt, mismarks, refusal-7, refusal-8, refusal-9, refusal-10, AcceptedState}
 use Rattle.records.specs.Encoding.{fact, rightWord, stateRecord}
-use Rattle.records.proofs.EncodingLaws.{kindOf, objectIn, fact-parts, state-objects, state-facts, state-left, state-right, state-kind, state-object, state-shaped}
+use Rattle.records.proofs.EncodingLaws.{kindOf, objectIn, fact-parts, state-objects, state-facts, state-counted, state-left, state-right, state-kind, state-object, state-shaped}
 use Rattle.records.proofs.General.FiniteLaws.{none-any, count-same}
 use Rattle.records.proofs.NamesLaws.{repeats-none}
 use Rattle.records.proofs.RefusalLaws.{state-accepted}
@@ -218,7 +218,7 @@ module _ (s : Signature) (I : State) (l : List ℕ) (limits : Limited s I l) (na
   given = rw (constants, chosen)
 
   pub list-accepted : AcceptedState s w
-  list-accepted = sym (state-accepted s w shape faultless order given)
+  list-accepted = sym (state-accepted s w shape faultless order (state-counted (I .size) l) given)
 
   pub list-alike : Alike s I (stateOf w)
   unfolding stateOf
