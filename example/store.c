@@ -1,6 +1,7 @@
 /* A store that reads queries from stored lists. It keeps views, narrow ones first, each with the list of its objects. A query
  * is read from the first list that is sure to have all its objects, and filtered unless the list is sure to have no others.
- * At the end it counts who attends what, and shows what each view names. With target/staticlib built:
+ * At the end it counts who attends what, shows what each view names, and lists the classes for a phone. With target/staticlib
+ * built:
  *
  *   cc -Iinclude example/store.c target/staticlib/libbikuvoa_c.a -o store && ./store */
 #include "bikuvoa.h"
@@ -242,6 +243,21 @@ static void show(const View *view)
     printf(" (%d of %d classes)\n", (int)named, CLASSES);
 }
 
+/* The phone lists the members of each class. The record says how many of its facts these are, and they are the first ones: the
+ * others are not looked at. */
+static void list_classes(void)
+{
+    size_t listed = CLASSES;
+    printf("on the phone:");
+    for (size_t i = 0; i < bikuvoa_class_facts(state.words); i++) {
+        size_t class = bikuvoa_fact_kind(state.words, i);
+        if (class != listed) printf(" %s", CLASS_NAMES[class]);
+        printf(" %zu", bikuvoa_fact_object(state.words, i));
+        listed = class;
+    }
+    printf(" (%zu of %zu facts)\n", bikuvoa_class_facts(state.words), bikuvoa_facts(state.words));
+}
+
 int main(void)
 {
     Query query;
@@ -287,5 +303,6 @@ int main(void)
 
     count_attendances(&views[PERSONS]);
     for (size_t i = 0; i < VIEWS; i++) show(narrow_first[i]);
+    list_classes();
     return 0;
 }

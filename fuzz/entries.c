@@ -6,6 +6,7 @@
  *
  * With -DSTANDALONE and any compiler it has a main of its own, which makes the number of inputs that it is given. */
 #define _DEFAULT_SOURCE
+#include "../tests/class_facts.h"
 #include "bikuvoa.h"
 #include <stdio.h>
 #include <stdlib.h>
@@ -24,9 +25,9 @@ int LLVMFuzzerTestOneInput(const uint8_t *data, size_t size);
  * checks found a class twice, or more steps than a view may have, how many catalogues had a group of several views, a group
  * before one with a lower number, or another layout, how many schemas were refused for the loose word, how many states that
  * decide wrote have one object for several constants, or for a mark, how many queries were held only since one mark stands at
- * several places, and how many states were refused for a mark that the query uses. */
+ * several places, how many states were refused for a mark that the query uses, and how many for their count of class facts. */
 static unsigned long verdicts[4], linked, undeclared, repeated, many_steps, grouped, ahead, other_layout, bad_loose, shared,
-    marked, tied, unchosen;
+    marked, tied, unchosen, miscounted;
 
 #define CHECK(ok) ((ok) ? (void)0 : fail(#ok, __LINE__))
 
@@ -38,7 +39,7 @@ static void fail(const char *what, int line)
 
 /* Words that end where a page begins that can be neither read nor written. */
 
-enum { SCHEMA, QUERY, VIEW, STATE, VIEWS, LENT, ORDER, WRITTEN, UNMARKED, PLACES = UNMARKED + VIEWS };
+enum { SCHEMA, QUERY, VIEW, STATE, VIEWS, LENT, ORDER, WRITTEN, MISCOUNTED, UNMARKED, PLACES = UNMARKED + VIEWS };
 #define FENCED_WORDS 81920 /* more than a size word can say, and whole pages */
 
 typedef struct {
@@ -366,14 +367,25 @@ static int are_names(Words schema, Words state)
     return !share(state, declared & ~loose);
 }
 
-/* Refused for its constants exactly if they are no names. */
+static int ascend(Words state)
+{
+    const uint16_t *left = state.at + BIKUVOA_STATE_SIZES, *right = left + bikuvoa_facts(state.at);
+    for (size_t i = 1; i < bikuvoa_facts(state.at); i++)
+        if (left[i] < left[i - 1] || (left[i] == left[i - 1] && right[i] <= right[i - 1])) return 0;
+    return 1;
+}
+
+/* If nothing is refused before: refused for its count exactly if that is false, and then for its constants exactly if they are
+ * no names. */
 static uint16_t broken_axiom(const Words *r, Words state, uint64_t *broken)
 {
     uint16_t returned;
     *broken = UNTOUCHED_OUT;
     returned = bikuvoa_legal(r[SCHEMA].at, r[SCHEMA].words, state.at, state.words, broken);
     CHECK(returned ? *broken == UNTOUCHED_OUT : *broken <= r[SCHEMA].at[BIKUVOA_AT_AXIOMS]);
-    if (returned == 0 || returned == BIKUVOA_BAD_CONSTANTS) CHECK(are_names(r[SCHEMA], state) == (returned == 0));
+    if (returned == BIKUVOA_BAD_CLASS_FACTS) CHECK(ascend(state) && !class_facts_are_first(state.at));
+    if (returned == 0 || returned == BIKUVOA_BAD_CONSTANTS)
+        CHECK(ascend(state) && class_facts_are_first(state.at) && are_names(r[SCHEMA], state) == (returned == 0));
     return returned;
 }
 
@@ -425,14 +437,6 @@ static int unmarked(const Words *r, Words state, Words *without)
     return room;
 }
 
-static int ascend(Words state)
-{
-    const uint16_t *left = state.at + BIKUVOA_STATE_SIZES, *right = left + bikuvoa_facts(state.at);
-    for (size_t i = 1; i < bikuvoa_facts(state.at); i++)
-        if (left[i] < left[i - 1] || (left[i] == left[i - 1] && right[i] <= right[i - 1])) return 0;
-    return 1;
-}
-
 /* The refusal of a state beside an accepted query, if alone it has this refusal: the same, but for the facts of marks
  * that the query uses. */
 static uint16_t bad_beside(const Words *r, uint16_t alone)
@@ -445,6 +449,7 @@ static uint16_t bad_beside(const Words *r, uint16_t alone)
     alone = broken_axiom(without, without[STATE], &broken);
     if (alone == BIKUVOA_BAD_FACT) return alone;
     if (!ascend(r[STATE])) return BIKUVOA_BAD_ORDER;
+    if (!class_facts_are_first(r[STATE].at)) return BIKUVOA_BAD_CLASS_FACTS;
     if (are_chosen(r[STATE], used)) return alone;
     unchosen++;
     return BIKUVOA_BAD_CONSTANTS;
@@ -496,6 +501,14 @@ static uint16_t check_links(const Words *r, uint16_t attribute)
     CHECK(first == links);
     linked += links > 0;
     return 0;
+}
+
+/* The state with another count of class facts. */
+static Words miscount(Words state, size_t more)
+{
+    Words w = copied(MISCOUNTED, state.at, state.words);
+    w.at[BIKUVOA_AT_CLASS_FACTS] = (uint16_t)(w.at[BIKUVOA_AT_CLASS_FACTS] + 1 + more % 65535);
+    return w;
 }
 
 /* What the tokens of an accepted concept name: the sets, and how many classes. */
@@ -607,13 +620,16 @@ static void check_marks(const Words *r, int held)
     CHECK(held_by(schema, replaced(r[QUERY], BIKUVOA_CONSTANT, constants), r[VIEW]) == (uint64_t)held);
 }
 
-/* The written state has a fact for each mark that the query uses, and for no other; the object is in the query and outside the
- * view. */
+/* The written state has its class facts first, and counts them: no other count is accepted. It has a fact for each mark that the
+ * query uses, and for no other; the object is in the query and outside the view. */
 static void check_written(const Words *r, Words written, uint64_t object)
 {
     uint8_t in_query[BIKUVOA_MAX_OBJECTS], in_view[BIKUVOA_MAX_OBJECTS];
     Words without[STATE + 1];
     unsigned used = used_in(r[QUERY]), facts = 0;
+    uint64_t found;
+    CHECK(class_facts_are_first(written.at));
+    CHECK(check_counterexample(r, miscount(written, object), &found) == BIKUVOA_BAD_CLASS_FACTS);
     for (size_t i = 0; i < bikuvoa_facts(written.at); i++) facts += bikuvoa_fact_kind(written.at, i) >= BIKUVOA_MARK_KINDS;
     for (size_t k = 0; k < BIKUVOA_MAX_MARKS; k++) facts -= used >> k & 1;
     CHECK(are_chosen(written, used) && facts == 0);
@@ -756,6 +772,20 @@ static uint16_t bad_attribute(size_t attribute, size_t attributes)
     return attribute < attributes ? 0 : BIKUVOA_BAD_ATTRIBUTE;
 }
 
+/* A state that is accepted by itself is refused by every entry if its count is another, whatever is at fault after it. */
+static void check_miscount(const Words *r, uint16_t attribute, uint16_t concept, uint16_t triple)
+{
+    uint8_t in_query[BIKUVOA_MAX_OBJECTS];
+    uint64_t broken, found;
+    Words other[STATE + 1];
+    memcpy(other, r, STATE * sizeof *other);
+    other[STATE] = miscount(r[STATE], attribute);
+    CHECK(broken_axiom(other, other[STATE], &broken) == BIKUVOA_BAD_CLASS_FACTS);
+    CHECK(selected(other, other[QUERY], other[STATE], 0, in_query) == first(concept, BIKUVOA_BAD_CLASS_FACTS));
+    CHECK(check_counterexample(other, other[STATE], &found) == first(triple, BIKUVOA_BAD_CLASS_FACTS));
+    CHECK(check_links(other, attribute) == first(concept, BIKUVOA_BAD_CLASS_FACTS));
+}
+
 static void check_all(const Words *r, size_t select_room, uint16_t attribute, size_t decide_room, size_t rows_room,
                       size_t order_room)
 {
@@ -771,8 +801,10 @@ static void check_all(const Words *r, size_t select_room, uint16_t attribute, si
     CHECK(!schema || (query == schema && view == schema && state == schema));
     CHECK(schema || is_among(query, BIKUVOA_BAD_CONCEPT_SHAPE, BIKUVOA_BAD_STEPS));
     CHECK(schema || is_among(view, BIKUVOA_BAD_CONCEPT_SHAPE, BIKUVOA_BAD_STEPS));
-    CHECK(schema || is_among(state, BIKUVOA_BAD_STATE_SHAPE, BIKUVOA_BAD_CONSTANTS));
+    CHECK(schema || state == BIKUVOA_BAD_CLASS_FACTS || is_among(state, BIKUVOA_BAD_STATE_SHAPE, BIKUVOA_BAD_CONSTANTS));
     bad_loose += schema == BIKUVOA_BAD_LOOSE;
+    miscounted += state == BIKUVOA_BAD_CLASS_FACTS;
+    if (!state) check_miscount(r, attribute, concept, first(query, view));
     CHECK(selected(r, r[QUERY], r[STATE], select_room, in_query)
           == first(first(concept, state), few_words(select_room, objects)));
     CHECK(check_counterexample(r, r[STATE], &found) == first(first(query, view), query ? 0 : bad_beside(r, state)));
@@ -832,10 +864,11 @@ int main(int argc, char **argv)
     printf("%ld inputs: held %lu, open %lu, refused %lu; links %lu, attribute not declared %lu; a class twice %lu, "
            "too many steps for a view %lu; groups of several views %lu, before a lower number %lu, another layout %lu; "
            "loose and not declared %lu, one object of several constants %lu; open with marks %lu, held by one mark %lu, "
-           "mark without an object %lu\n",
+           "mark without an object %lu; false count of class facts %lu\n",
            inputs, verdicts[BIKUVOA_HELD], verdicts[BIKUVOA_OPEN], verdicts[BIKUVOA_REFUSED], linked, undeclared, repeated,
-           many_steps, grouped, ahead, other_layout, bad_loose, shared, marked, tied, unchosen);
+           many_steps, grouped, ahead, other_layout, bad_loose, shared, marked, tied, unchosen, miscounted);
     return verdicts[BIKUVOA_HELD] && verdicts[BIKUVOA_OPEN] && verdicts[BIKUVOA_REFUSED] && linked && undeclared && repeated
-           && many_steps && grouped && ahead && other_layout && bad_loose && shared && marked && tied && unchosen ? 0 : 1;
+           && many_steps && grouped && ahead && other_layout && bad_loose && shared && marked && tied && unchosen && miscounted
+               ? 0 : 1;
 }
 #endif

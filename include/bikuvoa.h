@@ -38,7 +38,7 @@ extern "C" {
 
 /* While the major version is 0, a new minor version may change the format of records. */
 #define BIKUVOA_VERSION_MAJOR 0
-#define BIKUVOA_VERSION_MINOR 7
+#define BIKUVOA_VERSION_MINOR 8
 #define BIKUVOA_VERSION_PATCH 0
 #define BIKUVOA_VERSION (BIKUVOA_VERSION_MAJOR * 10000 + BIKUVOA_VERSION_MINOR * 100 + BIKUVOA_VERSION_PATCH)
 
@@ -75,7 +75,8 @@ extern "C" {
 
 #define BIKUVOA_AT_OBJECTS 0
 #define BIKUVOA_AT_FACTS 1
-#define BIKUVOA_STATE_SIZES 2
+#define BIKUVOA_AT_CLASS_FACTS 2
+#define BIKUVOA_STATE_SIZES 3
 
 /* The words of a record with so many entries, and of the largest. */
 #define BIKUVOA_SCHEMA_WORDS(axioms) (BIKUVOA_SCHEMA_SIZES + 2 * (axioms))
@@ -118,8 +119,8 @@ enum bikuvoa_token_sort {
     BIKUVOA_MARK = 10
 };
 
-/* A fact's left word is its kind times BIKUVOA_OBJECT_PART plus its object. Kinds begin with the classes; these are the
- * first kind of attributes, the first of constants, the first of marks, and one past the last. */
+/* A fact's left word is its kind times BIKUVOA_OBJECT_PART plus its object. Kinds begin with the classes, whose facts are the
+ * class facts; these are the first kind of attributes, the first of constants, the first of marks, and one past the last. */
 #define BIKUVOA_OBJECT_PART 512
 #define BIKUVOA_ATTRIBUTE_KINDS BIKUVOA_MAX_CLASSES
 #define BIKUVOA_CONSTANT_KINDS (BIKUVOA_ATTRIBUTE_KINDS + BIKUVOA_MAX_ATTRIBUTES)
@@ -127,9 +128,10 @@ enum bikuvoa_token_sort {
 #define BIKUVOA_FACT_KINDS (BIKUVOA_MARK_KINDS + BIKUVOA_MAX_MARKS)
 
 /* What the functions return. The records are checked in the order of the parameters, each by these numbers from the lowest
- * up, except that a schema is checked by 14 directly after 1; and after them the attribute or the lent words, where a function
- * takes them. 3 to 6 may be of the query or of the view: bikuvoa_query_refusal tells which. Of a catalogue the layout is checked
- * first, by 13, then one view after the other by 3 to 6: the first that bikuvoa_view_refusal refuses is at fault. */
+ * up, except that a schema is checked by 14 directly after 1, and a state by 15 directly after 9; and after them the attribute or
+ * the lent words, where a function takes them. 3 to 6 may be of the query or of the view: bikuvoa_query_refusal tells which. Of a
+ * catalogue the layout is checked first, by 13, then one view after the other by 3 to 6: the first that bikuvoa_view_refusal
+ * refuses is at fault. */
 enum bikuvoa_refusal {
     BIKUVOA_ACCEPTED = 0,
     BIKUVOA_BAD_SCHEMA_SHAPE = 1,
@@ -145,7 +147,8 @@ enum bikuvoa_refusal {
     BIKUVOA_FEW_LENT_WORDS = 11,
     BIKUVOA_BAD_ATTRIBUTE = 12,
     BIKUVOA_BAD_CATALOGUE = 13,
-    BIKUVOA_BAD_LOOSE = 14
+    BIKUVOA_BAD_LOOSE = 14,
+    BIKUVOA_BAD_CLASS_FACTS = 15
 };
 
 BIKUVOA_INLINE const char *bikuvoa_refusal_text(uint16_t refusal)
@@ -184,6 +187,8 @@ BIKUVOA_INLINE const char *bikuvoa_refusal_text(uint16_t refusal)
         return "catalogue: no view, too many, or a length that does not fit the count and the length words";
     case BIKUVOA_BAD_LOOSE:
         return "schema: a constant that is loose and not declared";
+    case BIKUVOA_BAD_CLASS_FACTS:
+        return "state: a false count of class facts";
     default:
         return "a number that is no refusal";
     }
@@ -280,8 +285,9 @@ BIKUVOA_INLINE enum bikuvoa_verdict bikuvoa_verdict_of(uint16_t returned, const 
 
 /* Builders. A record grows in an array of the caller's and is whole after each call: pass its words and length on.
  * - If the room does not suffice, nothing is written past it, and length becomes and stays 0: every function refuses that.
- * - Counts are kept, the steps of a concept too. Axioms and tokens stand in the order in which they are added. Facts may be
- *   added in any order; they are put in ascending order, and one that is there already is not put again.
+ * - Counts are kept, the steps of a concept and the class facts of a state too. Axioms and tokens stand in the order in which
+ *   they are added. Facts may be added in any order; they are put in ascending order, and one that is there already is not put
+ *   again.
  * - A number too large for its place becomes one that no schema declares, so that the record is refused and not misread.
  * - Each addition moves words along: for the largest state that is some ten milliseconds in all. */
 typedef struct {
@@ -521,6 +527,7 @@ BIKUVOA_INLINE void bikuvoa_fact(bikuvoa_state *state, size_t left, size_t right
     if (low < n && lefts[low] == left && rights[low] == right) return;
     state->length = bikuvoa_insert(state->words, state->room, state->length, BIKUVOA_STATE_SIZES, BIKUVOA_AT_FACTS,
                                    low, left, right);
+    if (state->length && left / BIKUVOA_OBJECT_PART < BIKUVOA_ATTRIBUTE_KINDS) state->words[BIKUVOA_AT_CLASS_FACTS]++;
 }
 
 /* The left word of a fact; number is below limit, or the kind is the largest that a word can have. */
@@ -581,11 +588,17 @@ BIKUVOA_INLINE void bikuvoa_view(bikuvoa_views *views, const uint16_t *view, siz
     views->length = length + 1 + view_words;
 }
 
-/* Reading a state record that is accepted, as the one written with OPEN is: its length in words, its number of facts, and of
- * fact i the kind, the object, and the second object of a pair. */
+/* Reading a state record that is accepted, as the one written with OPEN is: its number of facts, how many of them are class
+ * facts, its length in words, and of fact i the kind, the object, and the second object of a pair. Facts ascend, so the first
+ * bikuvoa_class_facts(state) of them are the class facts: a list of classes needs no walk over the others. */
 BIKUVOA_INLINE size_t bikuvoa_facts(const uint16_t *state)
 {
     return state[BIKUVOA_AT_FACTS];
+}
+
+BIKUVOA_INLINE size_t bikuvoa_class_facts(const uint16_t *state)
+{
+    return state[BIKUVOA_AT_CLASS_FACTS];
 }
 
 BIKUVOA_INLINE size_t bikuvoa_state_length(const uint16_t *state)

@@ -1,9 +1,11 @@
 /* The entries, called from C through include/bikuvoa.h: document 01's twelve small states, a triple of each verdict, links
  * counted by hand, what concepts name, every refusal that each entry has, alone and with later faults beside it, records
  * checked one at a time, null pointers, states and concepts at the limits, and the deepest concepts on the documented stack.
- * What a catalogue answers is in catalogue.c, and what marks do in marks.c. Not proved; it prints how many checks passed. */
+ * What a catalogue answers is in catalogue.c, what marks do in marks.c, and which counts of class facts are refused in counted.c.
+ * Not proved; it prints how many checks passed. */
 #define _DEFAULT_SOURCE
 #include "calls.h"
+#include "class_facts.h"
 #include "marked.h"
 #include "sets.h"
 #include <pthread.h>
@@ -68,7 +70,7 @@ static Record catalogue_of(Record first, Record second)
 static Record x, x_needs, no_axioms, one_attribute, all_declared, all_mentioned, s, no_objects, everything, person, both_views;
 
 /* A faulty record for each refusal of a schema, a concept and a state, and one with that of a catalogue. */
-static Record bad_schemas[3], bad_concepts[4], bad_states[4], bad_catalogue;
+static Record bad_schemas[3], bad_concepts[4], bad_states[5], bad_catalogue;
 
 static void make_records(void)
 {
@@ -115,8 +117,12 @@ static void make_bad_records(void)
     turned.words[BIKUVOA_STATE_SIZES] = turned.words[BIKUVOA_STATE_SIZES + 1];
     turned.words[BIKUVOA_STATE_SIZES + 1] = first;
     bad_states[2] = (Record){turned.length, turned.words};
+    bikuvoa_state miscounted = bikuvoa_start_state(take(BIKUVOA_STATE_WORDS(1)), BIKUVOA_STATE_WORDS(1), 1);
+    bikuvoa_name(&miscounted, 0, 0);
+    miscounted.words[BIKUVOA_AT_CLASS_FACTS] = 1;
+    bad_states[3] = (Record){miscounted.length, miscounted.words};
     bikuvoa_state unnamed = bikuvoa_start_state(take(BIKUVOA_STATE_WORDS(0)), BIKUVOA_STATE_WORDS(0), 1);
-    bad_states[3] = (Record){unnamed.length, unnamed.words};
+    bad_states[4] = (Record){unnamed.length, unnamed.words};
 
     bad_catalogue = (Record){both_views.words - 1, both_views.at};
 }
@@ -225,6 +231,20 @@ static void verdicts(void)
     check(untouched_from(written.words), "words after the record", 1);
 }
 
+/* The least lent words of a verdict, whether it writes a state or not. */
+static void least_words(void)
+{
+    for (int held = 0; held < 2; held++) {
+        uint64_t outs[2] = {UNTOUCHED_OUT, UNTOUCHED_OUT};
+        Record query = held ? person : everything, view = held ? everything : person;
+        clear_lent();
+        check(call(DECIDE, ON(x, query, view, NONE, WORDS(30770)), lent, outs) == 11 && outs[0] == UNTOUCHED_OUT
+                  && outs[1] == UNTOUCHED_OUT && untouched_from(0), "30,770 lent words", held);
+        check(call(DECIDE, ON(x, query, view, NONE, WORDS(30771)), lent, outs) == 0 && (outs[0] == 0) == held,
+              "30,771 lent words", held);
+    }
+}
+
 /* Whoever wants no state gets the same verdicts, and what stands beside the out value is not touched. */
 static void yes_or_no(void)
 {
@@ -246,12 +266,12 @@ static const int HAS[ENTRIES][PLACES] = {
 };
 
 /* What each place is refused by, in the order of the checks. */
-enum { MOST_REFUSALS = 4 };
+enum { MOST_REFUSALS = 5 };
 static const int REFUSALS[PLACES][MOST_REFUSALS] = {
     {BIKUVOA_BAD_SCHEMA_SHAPE, BIKUVOA_BAD_LOOSE, BIKUVOA_BAD_AXIOM},
     {BIKUVOA_BAD_CONCEPT_SHAPE, BIKUVOA_BAD_TOKEN, BIKUVOA_BAD_PILE, BIKUVOA_BAD_STEPS},
     {BIKUVOA_BAD_CONCEPT_SHAPE, BIKUVOA_BAD_TOKEN, BIKUVOA_BAD_PILE, BIKUVOA_BAD_STEPS},
-    {BIKUVOA_BAD_STATE_SHAPE, BIKUVOA_BAD_FACT, BIKUVOA_BAD_ORDER, BIKUVOA_BAD_CONSTANTS},
+    {BIKUVOA_BAD_STATE_SHAPE, BIKUVOA_BAD_FACT, BIKUVOA_BAD_ORDER, BIKUVOA_BAD_CLASS_FACTS, BIKUVOA_BAD_CONSTANTS},
     {BIKUVOA_FEW_LENT_WORDS}, {BIKUVOA_BAD_ATTRIBUTE}, {BIKUVOA_BAD_CATALOGUE}, {BIKUVOA_FEW_LENT_WORDS},
 };
 
@@ -424,7 +444,7 @@ static void limits(void)
     Record schema = {declares_all.length, declares_all.words}, state = {largest.length, largest.words};
     Record path = concept_of((Tokens)TOKENS(EMPTY, CLASS(23), FORWARD(7), REACHED));
     uint64_t out = 99;
-    check(state.words == 30770, "the words of the largest state", 0);
+    check(state.words == 30771, "the words of the largest state", 0);
     flags[480] = UNTOUCHED;
     check(call(SELECT, ON(schema, path, NONE, state, WORDS(481)), flags, &out) == 0 && out == 480 && flags[479] == 1
               && flags[480] == UNTOUCHED, "480 objects", 1);
@@ -546,7 +566,7 @@ static void what_links_take(void)
     for (int steps = 0; steps <= BIKUVOA_QUERY_STEPS; steps++)
         links(ON(one_attribute, chain(steps), NONE, state), 0, 5, "steps", steps);
     links(ON(one_attribute, chain(BIKUVOA_QUERY_STEPS + 1), NONE, state), BIKUVOA_BAD_STEPS, 0, "a step too many", 0);
-    const uint16_t no_facts[BIKUVOA_STATE_WORDS(0)] = {480, 0};
+    const uint16_t no_facts[BIKUVOA_STATE_WORDS(0)] = {480, 0, 0};
     links(ON(one_attribute, everything, NONE, {BIKUVOA_STATE_WORDS(0), no_facts}), 0, 0, "links without facts", 0);
     links(ON(x_needs, everything, NONE, s, NONE, NUMBER(WEARS)), 0, 2, "links of an illegal state", 0);
 }
@@ -779,7 +799,9 @@ static void run_on(unsigned char *stack, size_t bytes, int entry, const Record *
         || pthread_create(&thread, &attributes, run, &job) || pthread_join(thread, NULL)) abort();
     pthread_attr_destroy(&attributes);
     check(job.returned == 0, "a call on a stack of its own", entry);
-    if (entry == DECIDE && job.outs[0] > most_objects) most_objects = job.outs[0];
+    if (entry != DECIDE || job.outs[0] == 0) return;
+    check(class_facts_are_first(lent), "the class facts of a written state", (int)job.outs[0]);
+    if (job.outs[0] > most_objects) most_objects = job.outs[0];
 }
 
 static size_t stack_of(int entry, const Record *r)
@@ -977,6 +999,7 @@ int main(void)
     twelve_states();
     counterexamples();
     verdicts();
+    least_words();
     yes_or_no();
     refusals();
     nulls();

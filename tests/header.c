@@ -10,7 +10,7 @@
 
 static void numbers(void)
 {
-    check(BIKUVOA_DECIDE_WORDS == 30770, "the least lent words", 0);
+    check(BIKUVOA_DECIDE_WORDS == 30771, "the least lent words", 0);
     check(BIKUVOA_MAX_SCHEMA_WORDS == 197 && BIKUVOA_MAX_CONCEPT_WORDS == 130, "the largest schema and concept", 0);
     check(BIKUVOA_MAX_FACTS == BIKUVOA_MAX_OBJECTS * (BIKUVOA_MAX_CLASSES + BIKUVOA_MAX_ATTRIBUTES) + BIKUVOA_QUERY_STEPS
                                    + BIKUVOA_MAX_CONSTANTS + BIKUVOA_MAX_MARKS, "the most facts", 0);
@@ -19,8 +19,9 @@ static void numbers(void)
     check(BIKUVOA_MAX_OBJECTS <= BIKUVOA_OBJECT_PART && BIKUVOA_MAX_CLASSES <= BIKUVOA_BYTE_PART, "parts of words", 0);
     check(BIKUVOA_MAX_CLASSES <= 32 && BIKUVOA_MAX_ATTRIBUTES <= 32, "a bit of a set for each", 0);
     check(BIKUVOA_AT_LOOSE == 4 && BIKUVOA_SCHEMA_SIZES == 5 && BIKUVOA_MAX_CONSTANTS <= 16, "a bit of the loose word", 0);
+    check(BIKUVOA_AT_CLASS_FACTS == 2 && BIKUVOA_STATE_SIZES == 3, "the third size of a state", 0);
     check(BIKUVOA_MAX_VIEWS == 16 && BIKUVOA_MAX_CATALOGUE_WORDS == 2097, "the largest catalogue", 0);
-    check(BIKUVOA_RELATES == 5 && BIKUVOA_MARK == 10 && BIKUVOA_BAD_LOOSE == 14, "the last of each list", 0);
+    check(BIKUVOA_RELATES == 5 && BIKUVOA_MARK == 10 && BIKUVOA_BAD_CLASS_FACTS == 15, "the last of each list", 0);
     check(BIKUVOA_VERSION >= 100, "the version", 0);
 }
 
@@ -28,10 +29,10 @@ static void texts(void)
 {
     static const char *const BEGINS[] = {"accepted", "schema: ", "schema: ", "query or view: ", "query or view: ",
                                          "query or view: ", "query or view: ", "state: ", "state: ", "state: ", "state: ",
-                                         "lent words: ", "attribute: ", "catalogue: ", "schema: "};
+                                         "lent words: ", "attribute: ", "catalogue: ", "schema: ", "state: "};
     const char *unknown = bikuvoa_refusal_text(65535);
     uint16_t r, q;
-    for (r = 0; r <= BIKUVOA_BAD_LOOSE; r++) {
+    for (r = 0; r <= BIKUVOA_BAD_CLASS_FACTS; r++) {
         check(strncmp(bikuvoa_refusal_text(r), BEGINS[r], strlen(BEGINS[r])) == 0, "the text's record", r);
         check(strcmp(bikuvoa_refusal_text(r), unknown) != 0, "a refusal's text", r);
         for (q = 0; q < r; q++) check(strcmp(bikuvoa_refusal_text(r), bikuvoa_refusal_text(q)) != 0, "a text of its own", r);
@@ -45,7 +46,7 @@ static void verdicts(void)
     uint16_t r;
     check(BIKUVOA_HELD != 0 && BIKUVOA_OPEN != 0 && BIKUVOA_REFUSED != 0, "no verdict is 0", 0);
     check(bikuvoa_verdict_of(0, &objects) == BIKUVOA_HELD, "held", 0);
-    for (r = BIKUVOA_BAD_SCHEMA_SHAPE; r <= BIKUVOA_BAD_LOOSE; r++)
+    for (r = BIKUVOA_BAD_SCHEMA_SHAPE; r <= BIKUVOA_BAD_CLASS_FACTS; r++)
         check(bikuvoa_verdict_of(r, &objects) == BIKUVOA_REFUSED, "refused", r);
     for (objects = 1; objects <= BIKUVOA_MAX_OBJECTS; objects++)
         if (bikuvoa_verdict_of(0, &objects) != BIKUVOA_OPEN) break;
@@ -209,7 +210,7 @@ static void literally(void)
     static const uint16_t SCHEMA[] = {3, 2, 4, 5, 10, 256, 513, 770, 1026, 1281, 1, 258, 1, 0, 513};
     static const uint16_t CONCEPT[] = {16, 2, 1, 2, 4, 5, 3, 6, 8, 4, 5, 2, 7, 5, 9, 4, 10, 4,
                                        2, 0, 0, 0, 0, 1, 0, 0, 0, 0, 0, 0, 0, 0, 3, 0};
-    static const uint16_t STATE[] = {3, 9, 1, 11778, 15873, 15873, 15873, 16386, 16896, 18434, 19969,
+    static const uint16_t STATE[] = {3, 9, 2, 1, 11778, 15873, 15873, 15873, 16386, 16896, 18434, 19969,
                                      0, 0, 0, 1, 2, 0, 0, 0, 0};
     static const uint16_t CATALOGUE[] = {3, 14, 0, 22, 6, 1, 1, 5, 1, 6, 8, 4, 1, 0, 3, 3, 0, 0,
                                          10, 3, 1, 5, 1, 6, 2, 6, 1, 6, 8, 4, 0, 0, 2, 0, 0, 1, 3, 2, 0, 0};
@@ -241,12 +242,23 @@ static void literally(void)
     check(memcmp(words, CATALOGUE, sizeof CATALOGUE) == 0, "a catalogue's words", 0);
 }
 
-/* A concept and a catalogue of the most entries that a count can say. */
+/* A state, a concept and a catalogue of the most entries that a count can say. */
 static void counts(void)
 {
-    static uint16_t words[BIKUVOA_CONCEPT_WORDS(65535 + 1)];
-    bikuvoa_concept c = bikuvoa_start_concept(words, sizeof words / sizeof *words);
+    static uint16_t words[BIKUVOA_STATE_WORDS(65535 + 1)];
+    bikuvoa_state s = bikuvoa_start_state(words, sizeof words / sizeof *words, 3);
+    bikuvoa_concept c;
     bikuvoa_views v;
+    words[BIKUVOA_AT_CLASS_FACTS] = 65534;
+    s.length = BIKUVOA_STATE_WORDS(65534);
+    bikuvoa_member(&s, 0, 1);
+    check(s.length == BIKUVOA_STATE_WORDS(65535), "65,535 facts", 0);
+    check(bikuvoa_facts(words) == 65535 && bikuvoa_class_facts(words) == 65535, "their counts", 0);
+    bikuvoa_member(&s, 0, 2);
+    check(s.length == 0 && bikuvoa_class_facts(words) == 65535, "65,536 facts", 0);
+    bikuvoa_member(&s, 0, 2);
+    check(s.length == 0 && bikuvoa_class_facts(words) == 65535, "after 65,536 facts", 0);
+    c = bikuvoa_start_concept(words, sizeof words / sizeof *words);
     c.length = BIKUVOA_CONCEPT_WORDS(65534);
     bikuvoa_forward(&c, 0);
     check(c.length == BIKUVOA_CONCEPT_WORDS(65535), "65,535 tokens", 0);
@@ -295,6 +307,7 @@ static void states(void)
     bikuvoa_state s = facts(words, LARGEST);
     size_t i;
     check(bikuvoa_facts(words) == 9 && s.length == BIKUVOA_STATE_WORDS(9), "nine facts", 0);
+    check(bikuvoa_class_facts(words) == 2, "two of them of classes", 0);
     check(bikuvoa_state_length(words) == s.length, "their words", 0);
     for (i = 0; i < 9; i++) {
         check(bikuvoa_fact_kind(words, i) == KINDS[i] && bikuvoa_fact_object(words, i) == OBJECTS[i]

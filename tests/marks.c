@@ -342,7 +342,7 @@ static void most_facts(void)
         const Record *with = ON(schema, query, first, state), *without = ON(schema, everything, first, state, WORDS(480));
         const int row = (int)marks;
         uint64_t found = 99;
-        check(bikuvoa_facts(largest.words) == 15384 && state.words == 30770, "15,384 facts", row);
+        check(bikuvoa_facts(largest.words) == 15384 && state.words == 30771, "15,384 facts", row);
         check(call(COUNTEREXAMPLE, with, NULL, &found) == 0 && found == (marks ? 480 : 2), "15,384 facts", row);
         clear();
         for (int entry = SELECT; entry <= LINKS_BY_SECOND; entry++) {
@@ -365,10 +365,10 @@ static void lent_words(void)
         const Record query = query_of(used);
         uint64_t outs[2] = {0, 0};
         clear();
-        for (size_t words = 30762; words < 30770; words++)
+        for (size_t words = 30762; words < 30771; words++)
             refused(DECIDE, ON(one_constant, query, empty_class, NONE, WORDS(words)), 11, "too few words", (int)used);
         check(unaltered(), "refused by few words", (int)used);
-        check(call(DECIDE, ON(one_constant, query, empty_class, NONE, WORDS(30770)), lent, outs) == 0 && outs[0] > 0,
+        check(call(DECIDE, ON(one_constant, query, empty_class, NONE, WORDS(30771)), lent, outs) == 0 && outs[0] > 0,
               "enough words", (int)used);
         check(untouched_from(bikuvoa_state_length(lent)), "words after the record", (int)used);
     }
