@@ -71,12 +71,15 @@ pub const CONCEPT: Layout = Layout {
     counter: 0,
     max: MAX_TOKENS,
 };
-/// Size words: objects, facts.
+
+/// Size words: objects, facts, class facts.
 pub const STATE: Layout = Layout {
-    sizes: 2,
+    sizes: 3,
     counter: 1,
     max: MAX_FACTS,
 };
+/// The place of the count of class facts among a state's size words.
+pub const CLASS_FACTS: usize = 2;
 
 impl Layout {
     /// How many words a record with so many entries has.
@@ -102,8 +105,9 @@ impl Layout {
         Some(lefts.iter().copied().zip(rights.iter().copied()))
     }
 
-    /// A record with these size words, of which the count is set right, and
-    /// these entries. Missing size words are 0, and further words are not used.
+    /// A record with these size words, of which the count of the entries is set
+    /// right, and these entries. Missing size words are 0, and further words are
+    /// not used.
     pub fn record(&self, sizes: &[u16], entries: &[Pair]) -> Vec<u16> {
         let mut words: Vec<u16> = sizes.iter().copied().take(self.sizes).collect();
         words.resize(self.sizes, 0);
@@ -164,14 +168,24 @@ pub fn concept(tokens: &[Pair]) -> Vec<u16> {
     CONCEPT.record(&[0, steps.count() as u16], tokens)
 }
 
-/// A state record, with the facts in the order in which they are given.
+/// A state record, which counts its class facts, with the facts in the order in which
+/// they are given.
 pub fn state(objects: u16, facts: &[Pair]) -> Vec<u16> {
-    STATE.record(&[objects], facts)
+    let class_facts = facts.iter().filter(|&&fact| fact::is_class_fact(fact));
+    let mut words = STATE.record(&[objects], facts);
+    words[CLASS_FACTS] = class_facts.count() as u16;
+    words
 }
 
 /// How many objects a state record has, if it says so.
 pub fn objects(state: &[u16]) -> Option<u16> {
     state.first().copied()
+}
+
+/// How many class facts a state record has, if it says so. They come first if the
+/// facts ascend.
+pub fn class_facts(state: &[u16]) -> Option<u16> {
+    state.get(CLASS_FACTS).copied()
 }
 
 /// A catalogue record: how many views there are, the length of each in words, and
@@ -348,6 +362,11 @@ pub mod fact {
 
     pub const fn kind((left, _): Pair) -> u16 {
         left / OBJECT_PART
+    }
+
+    /// Whether it is a fact of a class.
+    pub const fn is_class_fact(fact: Pair) -> bool {
+        kind(fact) < ATTRIBUTE_KINDS
     }
 
     /// The object in the left word.

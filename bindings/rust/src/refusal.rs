@@ -23,9 +23,11 @@ impl Refusal {
     pub const BAD_CATALOGUE: Refusal = Refusal(13);
     /// Looked for directly after [`Refusal::BAD_SCHEMA_SHAPE`].
     pub const BAD_LOOSE: Refusal = Refusal(14);
+    /// Looked for directly after [`Refusal::BAD_ORDER`].
+    pub const BAD_CLASS_FACTS: Refusal = Refusal(15);
 
     /// The refusal with the highest number.
-    pub const LAST: Refusal = Refusal::BAD_LOOSE;
+    pub const LAST: Refusal = Refusal::BAD_CLASS_FACTS;
 
     /// The refusal's number, from 1 on.
     pub const fn number(self) -> u16 {
@@ -96,6 +98,9 @@ impl Refusal {
             }
             Refusal::BAD_LOOSE => {
                 "schema: a constant that is loose and not declared"
+            }
+            Refusal::BAD_CLASS_FACTS => {
+                "state: a false count of class facts"
             }
             // A library later than this crate may have more of them.
             _ => "a refusal that is not known here",

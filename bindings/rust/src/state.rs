@@ -263,4 +263,11 @@ impl State {
         let entries = STATE.entries(&self.0).into_iter().flatten();
         entries.filter_map(Fact::from_words)
     }
+
+    /// The class facts, which are the first ones: the members of classes. The record
+    /// counts them, so the facts after them are not walked.
+    pub fn class_facts(&self) -> impl Iterator<Item = Fact> + '_ {
+        let count = layout::class_facts(&self.0).unwrap_or(0);
+        self.facts().take(count.into())
+    }
 }

@@ -336,7 +336,7 @@ fn worn() -> StateBuilder {
 #[test]
 fn a_state_has_its_facts_in_order() {
     let state = worn().build().expect("a state");
-    let words = [3, 6, 2, 512, 513, 12288, 12289, 16384, 0, 0, 0, 2, 2, 0];
+    let words = [3, 6, 3, 2, 512, 513, 12288, 12289, 16384, 0, 0, 0, 2, 2, 0];
     assert_eq!(state.words(), words);
     assert_eq!(state.objects(), 3);
     let mut again = StateBuilder::new(&straps().build());
@@ -357,6 +357,35 @@ fn a_state_has_its_facts_in_order() {
     assert_eq!(read, Ok(state));
 }
 
+/// The facts after them are not walked: how many there are at most is known before the
+/// first is taken.
+#[test]
+fn class_facts_are_the_first_facts() {
+    let mut builder = worn();
+    builder.choose(Mark(0), Object(1)).expect("a fact");
+    let state = builder.build().expect("a state");
+    let class_facts: Vec<Fact> = state.class_facts().collect();
+    let expected = [(STRAP, 2), (PERSON, 0), (PERSON, 1)].map(|(class, object)| Fact::Member {
+        class,
+        object: Object(object),
+    });
+    assert_eq!(class_facts, expected);
+    assert_eq!(state.class_facts().size_hint().1, Some(3));
+
+    // Without constants all facts may be class facts, or none.
+    let mut schema = SchemaBuilder::new();
+    let class = schema.class("Strap").expect("a class");
+    let mut builder = StateBuilder::new(&schema.build());
+    let object = builder.object().expect("an object");
+    let none = builder.build().expect("a state");
+    assert_eq!(none.words(), [1, 0, 0]);
+    assert_eq!(none.class_facts().next(), None);
+    builder.member(class, object).expect("a fact");
+    let all = builder.build().expect("a state");
+    assert_eq!(all.words(), [1, 1, 1, 0, 0]);
+    assert!(all.class_facts().eq([Fact::Member { class, object }]));
+}
+
 /// Marks are told after the names, and two of them may be one object.
 #[test]
 fn a_state_has_the_objects_of_marks() {
@@ -365,9 +394,9 @@ fn a_state_has_the_objects_of_marks() {
         builder.choose(Mark(mark), Object(object)).expect("a fact");
     }
     let state = builder.build().expect("a state");
-    assert_eq!(state.words()[..2], [3, 9]);
-    assert_eq!(state.words()[7..11], [16384, 18433, 18946, 19970]);
-    assert_eq!(state.words()[17..], [0; 3]);
+    assert_eq!(state.words()[..3], [3, 9, 3]);
+    assert_eq!(state.words()[8..12], [16384, 18433, 18946, 19970]);
+    assert_eq!(state.words()[18..], [0; 3]);
     let choices: Vec<Fact> = state.facts().skip(6).collect();
     let expected = [(0, 1), (1, 2), (3, 2)].map(|(mark, object)| Fact::Choice {
         mark: Mark(mark),

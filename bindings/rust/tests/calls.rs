@@ -1,7 +1,7 @@
 //! The calls: the twelve small states, links and names counted by hand, refusals
 //! on raw words, and threads.
 
-use bikuvoa::layout::{self, axiom, fact, token, Signature};
+use bikuvoa::layout::{self, axiom, fact, token, Pair, Signature};
 use bikuvoa::{catalogue, check_concept, check_query, check_view, counterexample, decide};
 use bikuvoa::{holds, legal, links_by_first, links_by_second, raw, select};
 use bikuvoa::{Attribute, Class, Concept, Constant, Decision, Legality, Mark, Named, Object, Path};
@@ -317,19 +317,50 @@ fn faulty_concepts() -> Vec<(u16, Vec<u16>)> {
     ]
 }
 
+/// A state record that counts its class facts as so many.
+fn counting(class_facts: u16, objects: u16, facts: &[Pair]) -> Vec<u16> {
+    let mut words = layout::state(objects, facts);
+    words[layout::CLASS_FACTS] = class_facts;
+    words
+}
+
 fn faulty_states() -> Vec<(u16, Vec<u16>)> {
     let (one, two) = (fact::name(0, 0), fact::name(0, 1));
+    let (member, absent) = (fact::member(0, 0), fact::member(0, 1));
+    let pair = fact::pair(0, 0, 0);
     vec![
         (7, vec![]),
         (7, cut(words().state)),
-        (8, layout::state(1, &[fact::member(0, 1), one])),
+        // Records without a count of class facts, with facts and with none.
+        (
+            7,
+            vec![3, 6, 2, 512, 513, 12288, 12289, 16384, 0, 0, 0, 2, 2, 0],
+        ),
+        (7, vec![1, 0]),
+        // A false count of class facts is looked for after the order of the facts and
+        // before the constants.
+        (7, cut(counting(2, 1, &[member, one]))),
+        (7, counting(2, layout::MAX_OBJECTS + 1, &[member, one])),
+        (8, counting(2, 1, &[absent, one])),
+        (8, layout::state(1, &[absent, one])),
         (8, layout::state(1, &[fact::member(STRAPS.classes, 0), one])),
         (
             8,
             layout::state(1, &[one, fact::choice(layout::MAX_MARKS, 0)]),
         ),
         (9, layout::state(1, &[one, one])),
+        (9, counting(2, 1, &[one, one])),
+        (9, counting(0, 1, &[one, member])),
+        (15, counting(0, 1, &[member, pair, one])),
+        (15, counting(2, 1, &[member, pair, one])),
+        (15, counting(3, 1, &[member, pair, one])),
+        (15, counting(1, 1, &[one])),
+        (15, counting(u16::MAX, 1, &[one])),
+        (15, counting(1, 1, &[])),
+        (15, counting(0, 1, &[member])),
+        (15, counting(2, 2, &[one, two])),
         (10, layout::state(1, &[])),
+        (10, layout::state(1, &[member])),
         (10, layout::state(2, &[one, two])),
     ]
 }
@@ -451,8 +482,14 @@ fn a_refused_call_alters_nothing() {
     let (mut out, mut second) = (99, 98);
     let returned = raw::select(&schema, &concept, &state, &mut lent[..2], &mut out);
     assert_eq!((returned, lent, out), (11, [7; 4], 99));
-    let returned = raw::legal(&schema, &[], &mut out);
-    assert_eq!((returned, out), (7, 99));
+    for (expected, faulty) in faulty_states() {
+        let returned = raw::select(&schema, &concept, &faulty, &mut lent, &mut out);
+        assert_eq!((returned, lent, out), (expected, [7; 4], 99));
+        let returned = raw::legal(&schema, &faulty, &mut out);
+        assert_eq!((returned, out), (expected, 99));
+        let returned = raw::counterexample(&schema, &concept, &concept, &faulty, &mut out);
+        assert_eq!((returned, out), (expected, 99));
+    }
     let returned = raw::counterexample(&schema, &concept, &[], &state, &mut out);
     assert_eq!((returned, out), (3, 99));
     let returned = raw::decide(&schema, &concept, &[], &mut lent, &mut out, &mut second);
@@ -460,8 +497,10 @@ fn a_refused_call_alters_nothing() {
     let returned = raw::holds(&schema, &concept, &[], &mut out);
     assert_eq!((returned, out), (3, 99));
     for links in [raw::links_by_first, raw::links_by_second] {
-        let returned = links(&schema, &concept, &[], WEARS.0, &mut out);
-        assert_eq!((returned, out), (7, 99));
+        for (expected, faulty) in faulty_states() {
+            let returned = links(&schema, &concept, &faulty, WEARS.0, &mut out);
+            assert_eq!((returned, out), (expected, 99));
+        }
         let returned = links(&schema, &concept, &state, STRAPS.attributes, &mut out);
         assert_eq!((returned, out), (12, 99));
         let mut out = out;

@@ -6,7 +6,7 @@ use bikuvoa::{raw, Refusal, Signature};
 use std::collections::BTreeMap;
 
 /// Each refusal by the header's name.
-const REFUSALS: [(&str, Refusal); 14] = [
+const REFUSALS: [(&str, Refusal); 15] = [
     ("BAD_SCHEMA_SHAPE", Refusal::BAD_SCHEMA_SHAPE),
     ("BAD_AXIOM", Refusal::BAD_AXIOM),
     ("BAD_CONCEPT_SHAPE", Refusal::BAD_CONCEPT_SHAPE),
@@ -21,6 +21,7 @@ const REFUSALS: [(&str, Refusal); 14] = [
     ("BAD_ATTRIBUTE", Refusal::BAD_ATTRIBUTE),
     ("BAD_CATALOGUE", Refusal::BAD_CATALOGUE),
     ("BAD_LOOSE", Refusal::BAD_LOOSE),
+    ("BAD_CLASS_FACTS", Refusal::BAD_CLASS_FACTS),
 ];
 
 /// A file, by its path from this crate's folder.
@@ -84,6 +85,7 @@ fn the_numbers_are_the_headers() {
     same("AT_TOKENS", CONCEPT.counter);
     same("STATE_SIZES", STATE.sizes);
     same("AT_FACTS", STATE.counter);
+    same("AT_CLASS_FACTS", layout::CLASS_FACTS);
     same("BYTE_PART", axiom::subclass(0, 0).0.into());
     same("OBJECT_PART", fact::member(1, 0).0.into());
     same("ATTRIBUTE_KINDS", fact::ATTRIBUTE_KINDS.into());
@@ -130,6 +132,19 @@ fn the_size_words_of_a_schema_are_the_headers() {
     };
     assert_eq!(layout::schema(signature, &[]), words);
     assert_eq!(Signature::of(&words), Some(signature));
+}
+
+#[test]
+fn the_size_words_of_a_state_are_the_headers() {
+    let header = header();
+    let mut words = vec![0; STATE.sizes];
+    words[header["AT_OBJECTS"]] = 5;
+    words[header["AT_FACTS"]] = 3;
+    words[header["AT_CLASS_FACTS"]] = 1;
+    let facts = [fact::member(1, 0), fact::pair(0, 0, 0), fact::choice(0, 0)];
+    assert_eq!(layout::state(5, &facts)[..STATE.sizes], words);
+    assert_eq!(layout::objects(&words), Some(5));
+    assert_eq!(layout::class_facts(&words), Some(1));
 }
 
 #[test]

@@ -2,8 +2,9 @@
 //! turned down by the builder and by the library alike.
 
 use bikuvoa::layout::{self, axiom, fact, token, Pair};
-use bikuvoa::layout::{DECIDE_WORDS, MAX_AXIOMS, MAX_FACTS, MAX_OBJECTS, MAX_TOKENS};
+use bikuvoa::layout::{CLASS_FACTS, DECIDE_WORDS, MAX_FACTS, MAX_OBJECTS};
 use bikuvoa::layout::{MAX_ATTRIBUTES, MAX_CLASSES, MAX_CONSTANTS, MAX_MARKS};
+use bikuvoa::layout::{MAX_AXIOMS, MAX_TOKENS};
 use bikuvoa::layout::{QUERY_STEPS, VIEW_STEPS};
 use bikuvoa::{check_concept, check_query, check_view, raw, Mark};
 use bikuvoa::{Attribute, BuildError, Class, Concept, Constant, Item, Named, Object, Path, Query};
@@ -32,7 +33,7 @@ fn largest() -> Schema {
 #[test]
 fn the_numbers_are_the_formats() {
     assert_eq!(MAX_FACTS, 15_384);
-    assert_eq!(DECIDE_WORDS, 30_770);
+    assert_eq!(DECIDE_WORDS, 30_771);
     assert_eq!((fact::MARK_KINDS, fact::FACT_KINDS), (36, 40));
 }
 
@@ -328,6 +329,8 @@ fn objects_and_facts() {
     let state = builder.build().expect("a state");
     assert_eq!(state.objects(), MAX_OBJECTS);
     assert_eq!(state.facts().count(), MAX_FACTS);
+    let most = MAX_CLASSES * MAX_OBJECTS;
+    assert_eq!(state.class_facts().count(), most.into());
     assert_eq!(state.words().len(), DECIDE_WORDS);
     assert_eq!(schema.legal(&state), Ok(Legality::Legal));
     let all = Query::new(&schema, &Concept::everything()).expect("a query");
@@ -348,6 +351,35 @@ fn objects_and_facts() {
     let facts = vec![fact::member(0, 0); MAX_FACTS + 1];
     let words = layout::state(1, &facts);
     assert_eq!(refused_as(State::from_words(&schema, words)), Some(7));
+}
+
+/// Every count of class facts: only the true one is accepted. All others are refused
+/// alike, for the count has no limit of its own.
+#[test]
+fn class_facts() {
+    let schema = largest();
+    let names: Vec<Pair> = (0..MAX_CONSTANTS).map(|k| fact::name(k, k)).collect();
+    let pair = fact::pair(0, 0, 0);
+    let members = [fact::member(0, 3), fact::member(MAX_CLASSES - 1, 3)];
+    for members in [&members[..], &[]] {
+        let facts = [members, &[pair], &names].concat();
+        let mut words = layout::state(MAX_CONSTANTS, &facts);
+        for count in 0..=u16::MAX {
+            words[CLASS_FACTS] = count;
+            let read = State::from_words(&schema, words.clone());
+            let is_true = usize::from(count) == members.len();
+            let expected = if is_true { None } else { Some(15) };
+            assert_eq!(refused_as(read), expected, "{count}");
+        }
+    }
+
+    let full = full(&schema).build().expect("a state");
+    let most = MAX_CLASSES * MAX_OBJECTS;
+    for count in [0, most - 1, most + 1, u16::MAX] {
+        let mut words = full.words().to_vec();
+        words[CLASS_FACTS] = count;
+        assert_eq!(refused_as(State::from_words(&schema, words)), Some(15));
+    }
 }
 
 /// The largest state that a decision may need: each mark is an object too.

@@ -1,7 +1,7 @@
 //! Loose constants: which constants may have one object in a state, and which the
 //! library puts on one object. Every set of loose constants is tried.
 
-use bikuvoa::layout::{self, fact, token, Pair, MAX_CONSTANTS};
+use bikuvoa::layout::{self, fact, token, Pair, CLASS_FACTS, MAX_CONSTANTS};
 use bikuvoa::{counterexample, legal, links_by_first, links_by_second, select};
 use bikuvoa::{Attribute, BuildError, Class, Concept, Constant, Decision, Fact, Legality, Object};
 use bikuvoa::{Path, Query, Refusal, Schema, SchemaBuilder, Signature, State, StateBuilder, View};
@@ -67,9 +67,8 @@ fn built(schema: &Schema, objects: &[u16]) -> Result<State, BuildError> {
     builder.build()
 }
 
-/// Whether each call that takes a state accepts this one; the only refusal is that
-/// of the constants.
-fn is_accepted(schema: &Schema, state: &[u16]) -> bool {
+/// What each call that takes a state refuses this one as.
+fn refusal(schema: &Schema, state: &[u16]) -> Option<Refusal> {
     let everything = layout::concept(&[token::EVERYTHING]);
     let (words, query, attribute) = (schema.words(), &everything, WEARS.0);
     let answers = [
@@ -81,8 +80,14 @@ fn is_accepted(schema: &Schema, state: &[u16]) -> bool {
         State::from_words(schema, state.to_vec()).err(),
     ];
     assert_eq!(answers, [answers[0]; 6]);
-    assert!(matches!(answers[0], None | Some(Refusal::BAD_CONSTANTS)));
-    answers[0].is_none()
+    answers[0]
+}
+
+/// Whether the state is accepted; the only refusal is that of the constants.
+fn is_accepted(schema: &Schema, state: &[u16]) -> bool {
+    let refusal = refusal(schema, state);
+    assert!(matches!(refusal, None | Some(Refusal::BAD_CONSTANTS)));
+    refusal.is_none()
 }
 
 #[test]
@@ -104,6 +109,21 @@ fn states_in_which_constants_share_objects() {
                 Err(BuildError::NamedByTwo(_)) => assert!(!expected, "{loose}, {objects:?}"),
                 Err(error) => panic!("{error}"),
             }
+        }
+    }
+}
+
+/// A name is no class fact. A false count of those is told before two constants with
+/// one object.
+#[test]
+fn names_are_no_class_facts() {
+    for (loose, objects) in [(0, [0, 1, 2, 3]), (0, [2; 4]), (ALL, [2; 4])] {
+        let schema = schema(loose);
+        for class_facts in 1..=MAX_CONSTANTS + 1 {
+            let mut words = named(&objects);
+            words[CLASS_FACTS] = class_facts;
+            let refused = Some(Refusal::BAD_CLASS_FACTS);
+            assert_eq!(refusal(&schema, &words), refused, "{objects:?}");
         }
     }
 }

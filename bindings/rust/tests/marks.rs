@@ -1,7 +1,7 @@
 //! Marks: verdicts by hand, the objects that the written states have for marks,
 //! and which calls take queries and states with them.
 
-use bikuvoa::layout::{self, fact, token, Pair, Signature, MAX_MARKS};
+use bikuvoa::layout::{self, fact, token, Pair, Signature, CLASS_FACTS, MAX_MARKS};
 use bikuvoa::{catalogue, check_concept, check_query, check_view, counterexample, decide};
 use bikuvoa::{holds, legal, links_by_first, links_by_second, select};
 use bikuvoa::{Attribute, Axiom, Class, Concept, Constant, Decision, Fact, Legality, Mark, Named};
@@ -414,6 +414,33 @@ fn the_state_says_which_objects_the_marks_are() {
         (9, vec![zero, zero, two]),
     ] {
         assert_eq!(number(found(&choices)), expected, "{choices:?}");
+    }
+}
+
+/// The object of a mark is no class fact. A false count of those is told before a mark
+/// without an object or with several, and after the other faults.
+#[test]
+fn the_facts_of_marks_are_no_class_facts() {
+    let schema = free();
+    let query = words(&[token::mark(0), token::mark(2), token::BOTH]);
+    let view = words(&[token::EVERYTHING]);
+    let (zero, one, two) = (fact::choice(0, 0), fact::choice(1, 0), fact::choice(2, 0));
+    for (expected, class_facts, choices) in [
+        (0, 0, vec![zero, two]),
+        (15, 1, vec![zero, two]),
+        (15, 2, vec![zero, two]),
+        (15, 4, vec![zero, two]),
+        (15, 1, vec![]),
+        (15, 1, vec![two]),
+        (15, 3, vec![zero, fact::choice(0, 1), two]),
+        (10, 0, vec![zero, fact::choice(0, 1), two]),
+        (8, 3, vec![zero, one, two]),
+        (9, 2, vec![two, zero]),
+    ] {
+        let mut state = state_of(&choices);
+        state[CLASS_FACTS] = class_facts;
+        let found = counterexample(schema.words(), &query, &view, &state);
+        assert_eq!(number(found), expected, "{class_facts}, {choices:?}");
     }
 }
 

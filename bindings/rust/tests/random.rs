@@ -2,7 +2,7 @@
 //! another way than by a refusal.
 
 use bikuvoa::layout::{self, Pair, MAX_ATTRIBUTES, MAX_CLASSES, MAX_CONSTANTS, MAX_MARKS};
-use bikuvoa::layout::{MAX_VIEWS, QUERY_STEPS, VIEW_STEPS};
+use bikuvoa::layout::{CLASS_FACTS, MAX_VIEWS, QUERY_STEPS, VIEW_STEPS};
 use bikuvoa::{catalogue, check_concept, check_query, check_view, decide, holds, legal, select};
 use bikuvoa::{links_by_first, links_by_second};
 use bikuvoa::{Attribute, Axiom, Class, Concept, Constant, Fact, Mark, Object, Path, Token};
@@ -277,6 +277,40 @@ fn built_states_are_accepted() {
     assert!(shared > DRAWS / 20, "{shared} with a shared object");
 }
 
+/// The class facts, by a walk over all facts.
+fn members(state: &State) -> Vec<Fact> {
+    let is_member = |fact: &Fact| matches!(fact, Fact::Member { .. });
+    state.facts().filter(is_member).collect()
+}
+
+#[test]
+fn class_facts_of_built_states_are_counted() {
+    let mut random = Random(9);
+    let (mut none, mut mixed, mut refused) = (0, 0, 0);
+    for _ in 0..DRAWS {
+        let schema = random.schema();
+        let drawn = random.drawn(&schema);
+        let Some(state) = random.state(&schema, drawn) else {
+            continue;
+        };
+        let (members, facts) = (members(&state), state.facts().count());
+        assert!(state.class_facts().eq(members.iter().copied()));
+        none += usize::from(members.is_empty());
+        mixed += usize::from((1..facts).contains(&members.len()));
+
+        let mut words = state.words().to_vec();
+        words[CLASS_FACTS] = random.near(facts as u16 + 1);
+        let is_true = usize::from(words[CLASS_FACTS]) == members.len();
+        let expected = is_true.then_some(()).ok_or(Refusal::BAD_CLASS_FACTS);
+        let read = State::from_words(&schema, words).map(|_| ());
+        assert_eq!(read, expected);
+        refused += usize::from(!is_true);
+    }
+    let few = DRAWS / 40;
+    assert!(none > few && mixed > few, "{none}, {mixed}");
+    assert!(refused > few, "{refused}");
+}
+
 #[test]
 fn links_of_built_states_are_counted() {
     let mut random = Random(6);
@@ -408,6 +442,7 @@ fn built_triples_are_decided() {
                 open[sort] += 1;
                 shared += usize::from(is_shared(&state));
                 assert_eq!(chosen(&state), marks);
+                assert!(state.class_facts().eq(members(&state)));
                 let found = schema.counterexample(&query, &view, &state);
                 let found = found.expect("an answer").expect("a legal state");
                 assert!(found <= object, "{found:?}, {object:?}");
