@@ -12,7 +12,7 @@ use crate::syntax::{Concept, Schema, State};
 use std::collections::BTreeSet;
 
 /// The least number of lent words for a decision.
-pub const DECIDE_WORDS: usize = 30_770;
+pub const DECIDE_WORDS: usize = 30_771;
 
 /// The least number of lent words for the rows of a catalogue, and for its order.
 pub const CATALOGUE_WORDS: usize = 16;

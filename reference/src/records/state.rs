@@ -1,5 +1,5 @@
-//! State records: refusals 7 to 10, each looked for over the whole record
-//! before the next.
+//! State records: refusals 7, 8, 9, 15 and 10, in this order, each looked for over
+//! the whole record before the next.
 
 use super::entries;
 use crate::syntax::{Schema, State};
@@ -31,13 +31,13 @@ enum Fact {
 /// Decodes a state record for a query that uses these marks, or gives the number
 /// of its refusal.
 pub fn state(words: &[u16], schema: &Schema, marks: &BTreeSet<usize>) -> Result<State, u16> {
-    let &[objects, count, ..] = words else {
+    let &[objects, count, class_facts, ..] = words else {
         return Err(7);
     };
     if objects > OBJECTS || count > FACTS {
         return Err(7);
     }
-    let pairs = entries(words, 2, count).ok_or(7u16)?;
+    let pairs = entries(words, 3, count).ok_or(7u16)?;
     let objects = usize::from(objects);
     let facts = pairs
         .iter()
@@ -46,6 +46,12 @@ pub fn state(words: &[u16], schema: &Schema, marks: &BTreeSet<usize>) -> Result<
         .ok_or(8u16)?;
     if pairs.windows(2).any(|two| two[0] >= two[1]) {
         return Err(9);
+    }
+    let members = facts
+        .iter()
+        .filter(|fact| matches!(fact, Fact::Member { .. }));
+    if members.count() != usize::from(class_facts) {
+        return Err(15);
     }
     let constants = constants(&facts, schema).ok_or(10u16)?;
     let marks = choices(&facts, marks).ok_or(10u16)?;

@@ -14,18 +14,18 @@ fn schema() -> Vec<u16> {
 #[test]
 fn select_needs_a_word_for_each_object() {
     let mut lent = [9; 3];
-    let all = select(&schema(), &EVERYTHING, &[3, 0], &mut lent);
+    let all = select(&schema(), &EVERYTHING, &[3, 0, 0], &mut lent);
     assert_eq!((all, lent), (Ok(3), [1; 3]));
     let mut lent = [9; 2];
-    let short = select(&schema(), &EVERYTHING, &[3, 0], &mut lent);
+    let short = select(&schema(), &EVERYTHING, &[3, 0, 0], &mut lent);
     assert_eq!((short, lent), (Err(11), [9; 2]));
-    assert_eq!(select(&schema(), &EVERYTHING, &[0, 0], &mut []), Ok(0));
+    assert_eq!(select(&schema(), &EVERYTHING, &[0, 0, 0], &mut []), Ok(0));
     assert_eq!(
-        select(&schema(), &EVERYTHING, &[480, 0], &mut [0; 479]),
+        select(&schema(), &EVERYTHING, &[480, 0, 0], &mut [0; 479]),
         Err(11)
     );
     assert_eq!(
-        select(&schema(), &EVERYTHING, &[480, 0], &mut [0; 480]),
+        select(&schema(), &EVERYTHING, &[480, 0, 0], &mut [0; 480]),
         Ok(480)
     );
 }
@@ -34,20 +34,22 @@ fn select_needs_a_word_for_each_object() {
 fn decide_needs_room_for_the_largest_state() {
     let held = |words| decide(&schema(), &CLASS, &EVERYTHING, words);
     let open = |words| decide(&schema(), &EVERYTHING, &CLASS, words);
-    assert_eq!(held(30_770), Ok(Verdict::Held));
+    assert_eq!(held(30_771), Ok(Verdict::Held));
     assert_eq!(held(40_000), Ok(Verdict::Held));
-    assert_eq!(held(30_769), Err(11));
-    assert_eq!(open(30_770), Ok(Verdict::Open));
-    assert_eq!(open(30_769), Err(11));
+    assert_eq!(held(30_770), Err(11));
+    assert_eq!(open(30_771), Ok(Verdict::Open));
+    assert_eq!(open(30_770), Err(11));
     assert_eq!(open(0), Err(11));
 }
 
 #[test]
 fn a_refused_selection_writes_nothing() {
     let mut lent = [9; 3];
-    assert_eq!(select(&[], &EVERYTHING, &[3, 0], &mut lent), Err(1));
-    assert_eq!(select(&schema(), &[], &[3, 0], &mut lent), Err(3));
+    assert_eq!(select(&[], &EVERYTHING, &[3, 0, 0], &mut lent), Err(1));
+    assert_eq!(select(&schema(), &[], &[3, 0, 0], &mut lent), Err(3));
     assert_eq!(select(&schema(), &EVERYTHING, &[3], &mut lent), Err(7));
+    let miscounted = select(&schema(), &EVERYTHING, &[3, 0, 1], &mut lent);
+    assert_eq!(miscounted, Err(15));
     assert_eq!(lent, [9; 3]);
 }
 

@@ -1,7 +1,7 @@
 //! Links counted by hand: persons 0 to 3 and straps 4 to 6, over wears and
 //! lends. A person wears at most one thing, which the state breaks.
 
-use super::write::{axioms_record, fact, record, tokens_record};
+use super::write::{axioms_record, fact, facts_record, tokens_record};
 use crate::entries::{legal, links_by_first, links_by_second, Legality};
 
 const STRAP: u16 = 0;
@@ -22,7 +22,7 @@ fn state() -> Vec<u16> {
     facts.extend(wears.map(|(first, second)| fact(24, first, second)));
     let lends = [(0, 1), (5, 1), (5, 2), (6, 2)];
     facts.extend(lends.map(|(first, second)| fact(25, first, second)));
-    record(&[7, 17], &facts)
+    facts_record(7, &facts)
 }
 
 /// A concept's tokens, an attribute and the number of its links.

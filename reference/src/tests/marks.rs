@@ -313,9 +313,9 @@ fn a_concept_with_a_mark_is_refused() {
     let schema = write::schema(&schema(0, 1, 0, &[]));
     for number in 0..4 {
         let marked = write::concept(&to(forward(P), mark(number)));
-        assert_eq!(select(&schema, &marked, &[0, 0], &mut []), Err(4));
-        assert_eq!(links_by_first(&schema, &marked, &[0, 0], 0), Err(4));
-        assert_eq!(links_by_second(&schema, &marked, &[0, 0], 0), Err(4));
+        assert_eq!(select(&schema, &marked, &[0, 0, 0], &mut []), Err(4));
+        assert_eq!(links_by_first(&schema, &marked, &[0, 0, 0], 0), Err(4));
+        assert_eq!(links_by_second(&schema, &marked, &[0, 0, 0], 0), Err(4));
         assert_eq!(check_concept(&schema, &marked), Err(4));
         assert_eq!(check_view(&schema, &marked), Err(4));
         assert!(check_query(&schema, &marked).is_ok());

@@ -1,6 +1,6 @@
 //! The order in which what one call passes is checked.
 
-use super::write::{axioms_record, catalogue_record, loose_record, record};
+use super::write::{axioms_record, catalogue_record, facts_record, loose_record};
 use crate::calculus::Verdict;
 use crate::entries::{catalogue, check_concept, check_query, check_view, counterexample, decide};
 use crate::entries::{holds, legal, links_by_first, links_by_second, select, Counterexample};
@@ -10,7 +10,9 @@ const EVERYTHING: [u16; 4] = [1, 0, 2, 0];
 const BAD_TOKEN: [u16; 4] = [1, 0, 1, 1];
 const BAD_PILE: [u16; 4] = [1, 0, 5, 0];
 const BAD_STEPS: [u16; 4] = [1, 1, 2, 0];
-const BAD_STATE: [u16; 2] = [1, 0];
+const BAD_STATE: [u16; 3] = [1, 0, 0];
+/// With no object for the constant as well.
+const BAD_COUNT: [u16; 3] = [1, 0, 1];
 
 /// Not declared, as the schema declares no attribute.
 const ATTRIBUTE: u16 = 0;
@@ -29,7 +31,7 @@ fn bad_loose() -> Vec<u16> {
 }
 
 fn state() -> Vec<u16> {
-    record(&[1, 1], &[(32 * 512, 0)])
+    facts_record(1, &[(32 * 512, 0)])
 }
 
 #[test]
@@ -78,10 +80,14 @@ fn the_concept_is_checked_by_itself() {
 #[test]
 fn the_concept_comes_before_the_state() {
     assert_eq!(select(&schema(), &BAD_PILE, &[], &mut []), Err(5));
-    assert_eq!(select(&schema(), &BAD_STEPS, &BAD_STATE, &mut []), Err(6));
+    for state in [BAD_STATE, BAD_COUNT] {
+        assert_eq!(select(&schema(), &BAD_STEPS, &state, &mut []), Err(6));
+    }
     for links in [links_by_first, links_by_second] {
         assert_eq!(links(&schema(), &BAD_PILE, &[], ATTRIBUTE), Err(5));
-        assert_eq!(links(&schema(), &BAD_STEPS, &BAD_STATE, ATTRIBUTE), Err(6));
+        for state in [BAD_STATE, BAD_COUNT] {
+            assert_eq!(links(&schema(), &BAD_STEPS, &state, ATTRIBUTE), Err(6));
+        }
     }
 }
 
@@ -100,7 +106,9 @@ fn the_query_comes_before_the_view() {
 #[test]
 fn the_view_comes_before_the_state_and_the_lent_words() {
     assert_eq!(counterexample(&schema(), &CLASS, &BAD_TOKEN, &[]), Err(4));
-    assert_eq!(counterexample(&schema(), &CLASS, &[], &BAD_STATE), Err(3));
+    for state in [BAD_STATE, BAD_COUNT] {
+        assert_eq!(counterexample(&schema(), &CLASS, &[], &state), Err(3));
+    }
     assert_eq!(decide(&schema(), &CLASS, &BAD_STEPS, 0), Err(6));
     assert_eq!(decide(&schema(), &CLASS, &CLASS, 0), Err(11));
     assert_eq!(holds(&schema(), &CLASS, &BAD_STEPS), Err(6));
@@ -124,14 +132,15 @@ fn the_catalogue_comes_before_its_views_and_they_before_the_lent_words() {
 
 #[test]
 fn the_state_comes_before_the_lent_words() {
-    assert_eq!(select(&schema(), &CLASS, &BAD_STATE, &mut []), Err(10));
+    for (state, number) in [(BAD_STATE, 10), (BAD_COUNT, 15)] {
+        let refused = select(&schema(), &CLASS, &state, &mut []);
+        assert_eq!(refused, Err(number));
+        assert_eq!(legal(&schema(), &state), Err(number));
+        let refused = counterexample(&schema(), &CLASS, &CLASS, &state);
+        assert_eq!(refused, Err(number));
+    }
     assert_eq!(select(&schema(), &CLASS, &[1], &mut []), Err(7));
     assert_eq!(select(&schema(), &CLASS, &state(), &mut []), Err(11));
-    assert_eq!(legal(&schema(), &BAD_STATE), Err(10));
-    assert_eq!(
-        counterexample(&schema(), &CLASS, &CLASS, &BAD_STATE),
-        Err(10)
-    );
 }
 
 #[test]
@@ -139,6 +148,7 @@ fn the_state_comes_before_the_attribute() {
     for links in [links_by_first, links_by_second] {
         assert_eq!(links(&schema(), &CLASS, &[1], ATTRIBUTE), Err(7));
         assert_eq!(links(&schema(), &CLASS, &BAD_STATE, ATTRIBUTE), Err(10));
+        assert_eq!(links(&schema(), &CLASS, &BAD_COUNT, ATTRIBUTE), Err(15));
         assert_eq!(links(&schema(), &CLASS, &state(), ATTRIBUTE), Err(12));
     }
 }
@@ -146,10 +156,10 @@ fn the_state_comes_before_the_attribute() {
 #[test]
 fn counterexamples_need_a_legal_state() {
     let needs = axioms_record([1, 1, 0], &[(3 * 256, 0)]);
-    let open = [2, 0];
+    let open = [2, 0, 0];
     let yes = counterexample(&needs, &EVERYTHING, &CLASS, &open);
     assert_eq!(yes, Ok(Counterexample::Yes(0)));
-    let illegal = record(&[2, 1], &[(0, 0)]);
+    let illegal = facts_record(2, &[(0, 0)]);
     let no = counterexample(&needs, &EVERYTHING, &CLASS, &illegal);
     assert_eq!(no, Ok(Counterexample::No));
 }
@@ -157,7 +167,7 @@ fn counterexamples_need_a_legal_state() {
 #[test]
 fn the_lowest_separating_object_is_told() {
     let free = axioms_record([1, 0, 0], &[]);
-    let first_in = record(&[3, 1], &[(0, 0)]);
+    let first_in = facts_record(3, &[(0, 0)]);
     let yes = counterexample(&free, &EVERYTHING, &CLASS, &first_in);
     assert_eq!(yes, Ok(Counterexample::Yes(1)));
     let no = counterexample(&free, &CLASS, &EVERYTHING, &first_in);

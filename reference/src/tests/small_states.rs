@@ -1,6 +1,6 @@
 //! The twelve small states (a) to (l), over straps and their wearers.
 
-use super::write::{axioms_record, fact, record, tokens_record};
+use super::write::{axioms_record, fact, facts_record, tokens_record};
 use crate::entries::{legal, select, Legality};
 
 const STRAP: u16 = 0;
@@ -23,7 +23,7 @@ fn state() -> Vec<u16> {
         fact(24, 1, 2),
         fact(32, 0, 0),
     ];
-    record(&[3, 6], &facts)
+    facts_record(3, &facts)
 }
 
 /// A selection's letter, its tokens and the marks of the three objects.
@@ -79,7 +79,7 @@ fn k_breaks_the_need() {
 fn l_is_legal_without_objects() {
     for declared in [[0, 0, 0], [2, 1, 0]] {
         let schema = axioms_record(declared, &[]);
-        assert_eq!(legal(&schema, &[0, 0]), Ok(Legality::Legal));
+        assert_eq!(legal(&schema, &[0, 0, 0]), Ok(Legality::Legal));
     }
 }
 
@@ -93,7 +93,7 @@ fn the_first_of_several_broken_axioms_is_told() {
 #[test]
 fn each_kind_of_axiom_is_heeded() {
     let facts = [fact(0, 0, 0), fact(24, 0, 0), fact(24, 0, 1)];
-    let state = record(&[2, 3], &facts);
+    let state = facts_record(2, &facts);
     let broken = [
         (256, 1),
         (2 * 256, 1),

@@ -125,7 +125,14 @@ pub fn state(state: &State) -> Vec<u16> {
     pairs.extend(constants.map(|(constant, &object)| fact(32 + constant, object, 0)));
     let marks = state.marks.iter();
     pairs.extend(marks.map(|(mark, &object)| fact(36 + mark, object, 0)));
-    record(&[word(state.objects), word(pairs.len())], &pairs)
+    facts_record(word(state.objects), &pairs)
+}
+
+/// A state record from its facts, which it counts: all, and those of classes.
+pub fn facts_record(objects: u16, facts: &[(u16, u16)]) -> Vec<u16> {
+    let class_facts = facts.iter().filter(|fact| fact.0 / 512 < 24);
+    let sizes = [objects, word(facts.len()), word(class_facts.count())];
+    record(&sizes, facts)
 }
 
 /// The two words of a state's fact.
