@@ -7,7 +7,7 @@ use crate::prng::Prng;
 use crate::word;
 use bikuvoa::layout::token::{self, EMPTY, EVERYTHING, REACHED};
 use bikuvoa::layout::{self, fact, Layout, Signature};
-use bikuvoa::layout::{CONCEPT, LOOSE, QUERY_STEPS, STATE, VIEW_STEPS};
+use bikuvoa::layout::{CLASS_FACTS, CONCEPT, LOOSE, QUERY_STEPS, STATE, VIEW_STEPS};
 use bikuvoa::layout::{MAX_ATTRIBUTES, MAX_CLASSES, MAX_CONSTANTS, MAX_MARKS};
 use bikuvoa::layout::{MAX_OBJECTS, MAX_VIEWS};
 
@@ -29,12 +29,26 @@ fn damage_record(prng: &mut Prng, place: Place, layout: &Layout, words: &mut Vec
             return;
         }
     }
+    // So is the count of class facts, after the order of a state's facts and before
+    // what constants and marks name. Other damage alters what it has to be, so it comes
+    // last.
+    let miscounts = place == Place::State && prng.chance(40);
+    if !miscounts || prng.chance(60) {
+        damage_words(prng, place, layout, words);
+    }
+    if miscounts {
+        miscount(prng, words);
+    }
+}
+
+fn damage_words(prng: &mut Prng, place: Place, layout: &Layout, words: &mut Vec<u16>) {
     match prng.below(12) {
+        0 if place == Place::State => alter_entries(prng, layout, words),
         0..=2 => flip_word(prng, layout.sizes, words),
         3 => cut(prng, words),
         4 => lengthen(prng, words),
         5 => *words = random_words(prng),
-        6 if place == Place::State => name_otherwise(prng, words),
+        6 | 10 if place == Place::State => name_otherwise(prng, words),
         7..=8 if place == Place::State => choose_another(prng, words),
         6 if matches!(place, Place::Query | Place::View) => put_mark(prng, words),
         6..=8 => alter_entries(prng, layout, words),
@@ -150,6 +164,25 @@ fn loosen_another(prng: &mut Prng, words: &mut [u16]) {
         let highest = u16::BITS as u16 - 1;
         let any = prng.word_below(highest + 1);
         words[LOOSE] ^= 1 << prng.one_of([highest.min(declared.constants), highest, any]);
+    }
+}
+
+/// Counts one class fact more or less, none, as many as there are facts, fewer, or any
+/// number, or leaves the count out.
+fn miscount(prng: &mut Prng, words: &mut Vec<u16>) {
+    let (Some(&facts), Some(count)) = (words.get(STATE.counter), layout::class_facts(words)) else {
+        return lengthen(prng, words);
+    };
+    words[CLASS_FACTS] = match prng.below(10) {
+        0..=2 => count.wrapping_add(1),
+        3..=5 => count.wrapping_sub(1),
+        6 => 0,
+        7 => facts,
+        8 => prng.word_below(facts.max(1)),
+        _ => prng.word(),
+    };
+    if prng.chance(5) {
+        words.remove(CLASS_FACTS);
     }
 }
 

@@ -1,17 +1,19 @@
 //! What is drawn is what it is said to be.
 
 use super::catalogue::Catalogue;
+use super::damage::damage;
 use super::repair::{model, Values};
 use super::triple::{Marks, Triple};
 use super::{attribute, state, wide};
-use crate::call::Entry;
+use crate::call::{Entry, Place};
 use crate::prng::Prng;
-use bikuvoa::layout::{self, token, Pair, Signature};
+use bikuvoa::layout::{self, token, Pair, Signature, CLASS_FACTS};
 use reference::entries::{catalogue, counterexample, holds, legal, links_by_first};
 use reference::entries::{check_concept, select, CATALOGUE_WORDS};
 use reference::marks::used;
 use reference::records;
 use reference::semantics::{first_broken, selected};
+use std::collections::BTreeMap;
 
 const DRAWS: usize = 2_000;
 
@@ -142,6 +144,36 @@ fn states_are_accepted() {
         let links = links_by_first(&counted.schema, &counted.query, &counted.state, 0);
         assert!(matches!(links, Ok(_) | Err(12)), "{links:?} of {state:?}");
     }
+}
+
+/// The count of class facts is damaged alone and beside whatever else a state may be
+/// refused for.
+#[test]
+fn class_facts_are_miscounted_beside_other_damage() {
+    let mut prng = Prng::new(41);
+    let mut counts = BTreeMap::new();
+    for _ in 0..DRAWS {
+        let triple = Triple::random(&mut prng, Marks::Without);
+        let (schema, query) = triple.decoded();
+        let sound = state::state(&mut prng, triple.signature, &schema, &query);
+        let mut call = triple.call(Entry::Legal, sound.words_for(Entry::Legal), 0);
+        let told = call.state[CLASS_FACTS];
+        damage(&mut prng, &mut call, Place::State);
+        let mut words = call.state;
+        let refusal = |words: &[u16]| records::state(words, &schema, &used(&query)).err();
+        let number = refusal(&words);
+        if words.get(CLASS_FACTS).is_some_and(|&count| count != told) {
+            words[CLASS_FACTS] = told;
+            *counts.entry((number, refusal(&words))).or_insert(0) += 1;
+        }
+    }
+    // What they are refused as, and what they would be with the count as it was.
+    let is_common = |pair| counts.get(&pair).is_some_and(|&count| count * 100 > DRAWS);
+    assert!(is_common((Some(15), None)), "{counts:?}");
+    for earlier in [7, 8, 9].map(Some) {
+        assert!(is_common((earlier, earlier)), "{counts:?}");
+    }
+    assert!(is_common((Some(15), Some(10))), "{counts:?}");
 }
 
 #[test]

@@ -30,6 +30,11 @@ impl Tally {
     pub fn calls(&self) -> usize {
         self.numbers.iter().sum()
     }
+
+    /// How many were refused for their count of class facts.
+    pub fn miscounted(&self) -> usize {
+        self.numbers[usize::from(Refusal::BAD_CLASS_FACTS.number())]
+    }
 }
 
 impl fmt::Display for Tally {

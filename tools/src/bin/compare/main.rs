@@ -85,8 +85,9 @@ fn compare(seed: u64) -> Result<(), Box<Difference>> {
         "compare: seed {seed}, {} schemas (with loose constants {}), {} triples (held {}, open {}, \
          of these with two constants of one object {}; with marks {}, of these held {}), {} states \
          (legal {}, with two constants of one object {}, with marks {}), {} link counts (not 0 {}), \
-         {} damaged records, {} checked concepts (accepted as views {}, with marks {}), {} catalogues \
-         (pairs held {}, groups of more than one view {}): no difference",
+         {} damaged records (refused for their count of class facts {}), {} checked concepts \
+         (accepted as views {}, with marks {}), {} catalogues (pairs held {}, groups of more than one \
+         view {}): no difference",
         schemas.drawn,
         schemas.loose,
         triples.triples(),
@@ -102,6 +103,7 @@ fn compare(seed: u64) -> Result<(), Box<Difference>> {
         states.links,
         states.linked,
         damaged.calls(),
+        damaged.miscounted(),
         names.concepts,
         names.views,
         names.marked,

@@ -1,7 +1,8 @@
 //! Makes a call that is answered wrongly smaller, as long as it still is.
 
 use bikuvoa::layout::token::{self, CONSTANT, EVERYTHING, MARK};
-use bikuvoa::layout::{self, fact, Layout, Pair, Signature, CONCEPT, MAX_MARKS, SCHEMA, STATE};
+use bikuvoa::layout::{self, fact, Layout, Pair, Signature};
+use bikuvoa::layout::{CLASS_FACTS, CONCEPT, MAX_MARKS, SCHEMA, STATE};
 use std::ops::Range;
 use std::time::{Duration, Instant};
 use tools::call::{Call, Place};
@@ -63,8 +64,12 @@ impl Shrinker<'_> {
         self.take_call(call)
     }
 
+    /// Takes the call if it still differs. It must differ in the same way, so a count of
+    /// class facts that is right stays right, and one that is wrong stays wrong.
     fn take_call(&mut self, call: Call) -> bool {
-        let taken = Instant::now() < self.end && (self.differs)(&call);
+        let [before, after] = [&self.call, &call].map(|call| is_counted(&call.state));
+        let is_other = before.is_some() && after.is_some() && before != after;
+        let taken = Instant::now() < self.end && !is_other && (self.differs)(&call);
         if taken {
             self.call = call;
         }
@@ -105,9 +110,24 @@ impl Shrinker<'_> {
         let Some((layout, mut entries)) = self.entries(place) else {
             return false;
         };
-        entries.drain(at..entries.len().min(at + run));
+        let end = entries.len().min(at + run);
+        let dropped: Vec<Pair> = entries.drain(at..end).collect();
         let words = layout.record(&self.words(place), &entries);
-        self.take(place, words)
+        match place {
+            Place::State => self.take_counted(words, &dropped),
+            _ => self.take(place, words),
+        }
+    }
+
+    /// Takes the state without the dropped facts, its count lower by those of classes,
+    /// or as it is.
+    fn take_counted(&mut self, words: Vec<u16>, dropped: &[Pair]) -> bool {
+        let of_classes = class_facts(dropped.iter().copied());
+        [of_classes, 0].into_iter().any(|fewer| {
+            let mut words = words.clone();
+            words[CLASS_FACTS] = words[CLASS_FACTS].wrapping_sub(word(fewer));
+            self.take(Place::State, words)
+        })
     }
 
     /// Puts nothing, or one leaf, for a run of tokens: long runs first.
@@ -259,6 +279,17 @@ impl Shrinker<'_> {
             lower < number && self.take_call(call)
         })
     }
+}
+
+/// Whether a state's count of class facts is right, if its length fits its facts.
+fn is_counted(state: &[u16]) -> Option<bool> {
+    let facts = STATE.entries(state)?;
+    Some(usize::from(state[CLASS_FACTS]) == class_facts(facts))
+}
+
+/// How many of the facts are of classes.
+fn class_facts(facts: impl Iterator<Item = Pair>) -> usize {
+    facts.filter(|&fact| fact::is_class_fact(fact)).count()
 }
 
 /// The call without a constant, for which everything stands, if the schema's

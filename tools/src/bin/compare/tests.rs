@@ -2,6 +2,7 @@
 //! small calls, on inputs that are worth comparing on.
 
 mod catalogued;
+mod class_facts;
 mod loose;
 mod marks;
 mod misread;

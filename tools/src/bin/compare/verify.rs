@@ -94,8 +94,9 @@ fn check_open(call: &Call, seen: &Outcome) -> Result<(), String> {
     check_separates(call, &seen.words[..length], seen.outs)
 }
 
-/// An accepted record of a legal state of N objects, with an object for each mark
-/// that the query uses, and with the object in the query and outside the view.
+/// An accepted record, in which the count of class facts is that of a walk over all
+/// facts, of a legal state of N objects, with an object for each mark that the query
+/// uses, and with the object in the query and outside the view.
 fn check_separates(call: &Call, record: &[u16], [objects, object]: [u64; 2]) -> Result<(), String> {
     let refused = |number| format!("the triple is refused as {number}");
     let schema = records::schema(&call.schema).map_err(refused)?;

@@ -11,7 +11,7 @@ use std::collections::BTreeSet;
 use tools::call::{Call, Entry, Place};
 
 /// Those that take a state.
-fn judges() -> impl Iterator<Item = Entry> {
+pub fn judges() -> impl Iterator<Item = Entry> {
     let takes_state = |entry: &Entry| entry.places().contains(&Place::State);
     Entry::ALL.into_iter().filter(takes_state)
 }
@@ -76,17 +76,6 @@ fn used(call: &Call) -> BTreeSet<u16> {
 }
 
 impl Answer<'_> {
-    /// Puts other facts into the state that decide has written.
-    fn rewrite(&mut self, alter: impl Fn(&Call, &mut Vec<Pair>)) {
-        let written = self.lent[..self.written()].to_vec();
-        let mut facts = Vec::from_iter(STATE.entries(&written).expect("a written state"));
-        alter(self.call, &mut facts);
-        facts.sort_unstable();
-        let other = STATE.record(&written, &facts);
-        self.lent.copy_from_slice(&self.before);
-        self.lent[..other.len()].copy_from_slice(&other);
-    }
-
     /// Whether some mark that the call's query uses has so many objects in its state.
     fn has_mark_of(&self, objects: fn(usize) -> bool) -> bool {
         let facts = STATE.entries(&self.call.state).into_iter().flatten();
@@ -151,7 +140,7 @@ fn a_state_with_another_object_for_a_mark() {
 
 /// The comparison of damaged records must find a misreading by an entry, where it then
 /// does not see that refusal.
-fn assert_refusal_missed(entry: Entry, number: u16, misread: fn(&mut Call)) {
+pub fn assert_refusal_missed(entry: Entry, number: u16, misread: fn(&mut Call)) {
     let found = damage_difference(&Misread(|call| {
         if call.entry == entry {
             misread(call);

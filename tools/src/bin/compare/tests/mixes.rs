@@ -105,4 +105,6 @@ fn every_refusal_comes_up() {
     assert!(tally.numbers.iter().all(|&calls| calls >= 10), "{tally}");
     // Wrong loose bits are refused between two others, so they come up often.
     assert!(tally.numbers[14] * 40 > tally.calls(), "{tally}");
+    // So are false counts of class facts.
+    assert!(tally.miscounted() * 40 > tally.calls(), "{tally}");
 }

@@ -7,8 +7,10 @@ use crate::schemas::{meets, shares};
 use crate::shrink::shrink;
 use crate::verify::{verify, Difference};
 use bikuvoa::layout::token::{BOTH, EVERYTHING, MARK};
-use bikuvoa::layout::{self, fact, Layout, Signature, CONCEPT, MAX_VIEWS, SCHEMA, STATE};
+use bikuvoa::layout::{self, fact, Layout, Signature};
+use bikuvoa::layout::{CLASS_FACTS, CONCEPT, MAX_VIEWS, SCHEMA, STATE};
 use tools::call::{Call, Entry};
+use tools::draw::triple::Triple;
 
 type Spoil = fn(&mut Answer);
 
@@ -115,6 +117,93 @@ fn of_a_wrong_judgement() {
     // One axiom and at most the three facts that break it.
     assert_eq!(entries(&SCHEMA, &call.schema), 1);
     assert!(entries(&STATE, &call.state) <= 3, "{:?}", call.state);
+}
+
+/// A right count of class facts stays right, though false ones are not seen either.
+#[test]
+fn of_a_wrong_judgement_where_no_count_is_seen() {
+    let blind: Spoil = |answer| match answer.number {
+        0 if answer.entry == Entry::Legal => answer.outs[0] = 0,
+        15 => answer.number = 0,
+        _ => {}
+    };
+    let found = state_difference(&Spoilt(blind));
+    let call = smallest(blind, *found);
+    // As without the second fault.
+    assert_eq!(entries(&SCHEMA, &call.schema), 1);
+    let facts: Vec<_> = STATE.entries(&call.state).expect("a state").collect();
+    assert!(facts.len() <= 3, "{facts:?}");
+    let objects = layout::objects(&call.state).expect("a state");
+    assert_eq!(call.state, layout::state(objects, &facts));
+}
+
+/// Accepts any count of class facts.
+#[test]
+fn of_an_unseen_count() {
+    let unseen: Spoil = |answer| {
+        if answer.number == 15 {
+            answer.number = 0;
+        }
+    };
+    let found = damage_difference(&Spoilt(unseen));
+    let call = smallest(unseen, *found);
+    // No axiom, and one class fact is counted where there is none.
+    assert_eq!(entries(&SCHEMA, &call.schema), 0);
+    let mut state = layout::state(0, &[]);
+    state[CLASS_FACTS] = 1;
+    assert_eq!(call.state, state);
+}
+
+/// A call with three facts of classes and three of pairs, of which it counts so many.
+fn counting(class_facts: u16) -> Call {
+    let signature = Signature {
+        classes: 2,
+        attributes: 1,
+        ..Signature::default()
+    };
+    let facts = [
+        fact::member(0, 0),
+        fact::member(0, 1),
+        fact::member(1, 0),
+        fact::pair(0, 0, 0),
+        fact::pair(0, 0, 1),
+        fact::pair(0, 1, 1),
+    ];
+    let mut state = layout::state(2, &facts);
+    state[CLASS_FACTS] = class_facts;
+    let triple = Triple {
+        signature,
+        axioms: Vec::new(),
+        query: Vec::new(),
+        view: Vec::new(),
+    };
+    triple.call(Entry::Legal, state, 0)
+}
+
+/// Accepts a count of no facts, or of all of them.
+#[test]
+fn of_an_unseen_count_of_none_or_all() {
+    let of_none: Spoil = |answer| {
+        let told = layout::class_facts(&answer.call.state);
+        if answer.number == 15 && told == Some(0) {
+            answer.number = 0;
+        }
+    };
+    let of_all: Spoil = |answer| {
+        let state = &answer.call.state;
+        if answer.number == 15 && state[CLASS_FACTS] == state[STATE.counter] {
+            answer.number = 0;
+        }
+    };
+    for (spoil, told, is_of_class) in [(of_none, 0, true), (of_all, 6, false)] {
+        let found = verify(&Spoilt(spoil), &counting(told));
+        let call = smallest(spoil, *found.expect_err("a wrong refusal"));
+        // One fact, which is counted if it is not of a class and is not if it is.
+        let facts: Vec<_> = STATE.entries(&call.state).expect("a state").collect();
+        assert_eq!(facts.len(), 1, "{facts:?}");
+        assert_eq!(fact::is_class_fact(facts[0]), is_of_class);
+        assert_eq!(call.state[CLASS_FACTS], u16::from(!is_of_class));
+    }
 }
 
 #[test]

@@ -70,6 +70,17 @@ impl Answer<'_> {
         STATE.length(self.lent).expect("a written state")
     }
 
+    /// Puts other facts into the state that decide has written, which it then counts.
+    pub fn rewrite(&mut self, alter: impl Fn(&Call, &mut Vec<Pair>)) {
+        let written = self.lent[..self.written()].to_vec();
+        let mut facts = Vec::from_iter(STATE.entries(&written).expect("a written state"));
+        alter(self.call, &mut facts);
+        facts.sort_unstable();
+        let other = layout::state(self.outs[0] as u16, &facts);
+        self.lent.copy_from_slice(&self.before);
+        self.lent[..other.len()].copy_from_slice(&other);
+    }
+
     /// How many attributes the call's schema declares.
     fn attributes(&self) -> u16 {
         let signature = Signature::of(&self.call.schema);
@@ -140,18 +151,16 @@ fn a_state_without_its_last_class_fact() {
         if !answer.is_open() {
             return;
         }
-        let written = answer.lent[..answer.written()].to_vec();
-        let facts = STATE.entries(&written).expect("a written state");
-        let mut facts: Vec<Pair> = facts.collect();
-        let is_member = |&entry: &_| fact::kind(entry) < fact::ATTRIBUTE_KINDS;
-        if let Some(last) = facts.iter().rposition(is_member) {
-            facts.remove(last);
-        }
-        let fewer = STATE.record(&written, &facts);
-        answer.lent.copy_from_slice(&answer.before);
-        answer.lent[..fewer.len()].copy_from_slice(&fewer);
+        answer.rewrite(|_, facts| {
+            let is_member = |&entry: &_| fact::is_class_fact(entry);
+            if let Some(last) = facts.iter().rposition(is_member) {
+                facts.remove(last);
+            }
+        });
     }));
-    assert!(!found.fault.starts_with("lent word"), "{}", found.fault);
+    let is_other_state = found.fault.starts_with("the written state breaks axiom ")
+        || found.fault.ends_with(" is not in the query");
+    assert!(is_other_state, "{}", found.fault);
 }
 
 #[test]
@@ -339,7 +348,7 @@ fn pairs_whose_second_object_is_selected() {
 fn the_attribute_refused_before_the_state() {
     for entry in Entry::LINKS {
         let found = damage_difference(&Spoilt(|answer| {
-            let is_of_state = answer.entry == entry && (7..=10).contains(&answer.number);
+            let is_of_state = answer.entry == entry && matches!(answer.number, 7..=10 | 15);
             if is_of_state && answer.call.attribute >= answer.attributes() {
                 answer.number = 12;
             }
