@@ -39,6 +39,10 @@ def full_state(extra):
 SUBCLASS = axiom(1, 0, 0)
 LARGE = schema(24, 8, 4)
 SMALL = schema(2, 1, 1)
+# 4 class facts, 3 pairs and 2 constants' facts.
+COUNTED = [member(0, 0), member(0, 1), member(1, 0), member(1, 2), pair(0, 0, 0), pair(0, 0, 1), pair(0, 9, 0), name(0, 8),
+           name(1, 9)]
+FOUR_NAMES = [name(k, k) for k in range(4)]
 
 CASES = [
     # 1: fewer than 5 words, a size above its limit, or a length other than 5 + 2n.
@@ -161,16 +165,23 @@ CASES = [
     ("query", concept(steps(17)), 6),
     ("view", concept(steps(6)), 0),
     ("view", concept(steps(7)), 6),
-    # 7: fewer than 2 words, a size above its limit, or a length other than 2 + 2n.
-    ("schema", schema(0, 0, 0), 0),
+    # 7: fewer than 3 words, objects or facts above their limit, or a length other than 3 + 2n.
+    ("schema", schema(1, 0, 0), 0),
     ("state", [], 7),
     ("state", [0], 7),
-    ("state", [0, 0], 0),
-    ("state", [0, 0, 0], 7),
-    ("state", [480, 0], 0),
-    ("state", [481, 0], 7),
+    ("state", [0, 0], 7),
+    ("state", [0, 0, 0], 0),
+    ("state", [0, 0, 0, 0], 7),
+    ("state", [480, 0, 0], 0),
+    ("state", [481, 0, 0], 7),
+    ("state", [1, 1, 1], 7),
+    ("state", [1, 1, 1, 0], 7),
+    ("state", [1, 1, 1, 0, 0], 0),
+    ("state", [1, 1, 1, 0, 0, 0], 7),
+    # Two size words alone, and a fact.
+    ("state", [1, 1, 0, 0], 7),
     ("schema", LARGE, 0),
-    ("state", state(480, full_state(4)), 0),
+    ("state", state(480, full_state(4), 24 * 480), 0),
     ("state", state(480, full_state(5)), 7),
     ("query", concept([(MARK, 0), (MARK, 1), BOTH, (MARK, 2), BOTH, (MARK, 3), BOTH]), 0),
     ("state", state(480, full_state(0) + [choice(k, 479) for k in range(4)]), 0),
@@ -199,6 +210,81 @@ CASES = [
     ("state", state(2, [member(1, 0), member(0, 1)]), 9),
     ("state", state(2, [pair(0, 0, 1), pair(0, 0, 0)]), 9),
     ("state", state(2, [pair(0, 0, 0), pair(0, 0, 1)]), 0),
+    # 15: the third word is not the number of class facts, those of kinds 0 to 23.
+    ("schema", schema(2, 1, 2), 0),
+    ("state", state(10, COUNTED, 4), 0),
+    ("state", state(10, COUNTED, 3), 15),
+    ("state", state(10, COUNTED, 5), 15),
+    ("state", state(10, COUNTED, 0), 15),
+    ("state", state(10, COUNTED, 65535), 15),
+    ("state", state(10, COUNTED, 4 + (1 << 8)), 15),
+    ("state", state(10, COUNTED, 4 + (1 << 15)), 15),
+    # 15: the constants' facts counted too, the pairs, or all; the classes counted, or the objects.
+    ("state", state(10, COUNTED, 6), 15),
+    ("state", state(10, COUNTED, 7), 15),
+    ("state", state(10, COUNTED, 9), 15),
+    ("state", state(10, COUNTED, 2), 15),
+    ("state", state(10, COUNTED, 10), 15),
+    # The word has no limit of its own: above those of objects and of facts it is 15, and not 7.
+    ("schema", schema(24, 8, 0), 0),
+    ("state", [0, 0, 1], 15),
+    ("state", [0, 0, 480], 15),
+    ("state", [0, 0, 481], 15),
+    ("state", [0, 0, 15384], 15),
+    ("state", [0, 0, 15385], 15),
+    ("state", [0, 0, 65535], 15),
+    # Kind 23 is the last of the class facts, 24 the first of the pairs, 31 their last.
+    ("state", state(480, [member(23, 479)], 1), 0),
+    ("state", state(480, [member(23, 479)], 0), 15),
+    ("state", state(480, [pair(0, 0, 0)], 0), 0),
+    ("state", state(480, [pair(0, 0, 0)], 1), 15),
+    ("state", state(480, [member(23, 479), pair(0, 0, 0)], 1), 0),
+    ("state", state(480, [member(23, 479), pair(0, 0, 0)], 0), 15),
+    ("state", state(480, [member(23, 479), pair(0, 0, 0)], 2), 15),
+    ("state", state(480, [pair(7, 479, 479)], 0), 0),
+    ("state", state(480, [pair(7, 479, 479)], 1), 15),
+    # Facts of constants, kinds 32 to 35, and of marks, 36 to 39, are no class facts.
+    ("schema", LARGE, 0),
+    ("state", state(4, FOUR_NAMES, 0), 0),
+    ("state", state(4, FOUR_NAMES, 1), 15),
+    ("state", state(4, FOUR_NAMES, 4), 15),
+    ("state", state(4, [member(0, 3), *FOUR_NAMES], 1), 0),
+    ("state", state(4, [member(0, 3), *FOUR_NAMES], 5), 15),
+    # The largest state, of 24 * 480 class facts, with a false count.
+    ("state", state(480, full_state(4), 24 * 480 - 1), 15),
+    ("query", concept([(MARK, 0), (MARK, 3), BOTH]), 0),
+    ("state", state(4, [*FOUR_NAMES, choice(0, 0), choice(3, 0)], 0), 0),
+    ("state", state(4, [*FOUR_NAMES, choice(0, 0), choice(3, 0)], 1), 15),
+    ("state", state(4, [*FOUR_NAMES, choice(0, 0), choice(3, 0)], 2), 15),
+    ("state", state(4, [*FOUR_NAMES, choice(0, 0), choice(3, 0)], 6), 15),
+    # 7 before 15.
+    ("schema", schema(1, 1, 2), 0),
+    ("state", [481, 0, 1], 7),
+    ("state", [1, 0, 1, 0], 7),
+    ("state", [1, 1, 0, 0, 0, 0], 7),
+    ("state", [1, 15385, 0], 7),
+    # 8 before 15: the bad fact stands after, or is itself the one that is not counted.
+    ("state", state(2, [member(0, 0), member(1, 0)], 1), 8),
+    ("state", state(2, [member(0, 0), pair(1, 0, 0)], 0), 8),
+    ("state", state(2, [member(0, 2)], 0), 8),
+    # 9 before 15: by a false count, and by a true one of class facts that do not stand first.
+    ("state", state(2, [member(0, 1), member(0, 0)], 1), 9),
+    ("state", state(2, [member(0, 0), member(0, 0)], 1), 9),
+    ("state", state(2, [pair(0, 0, 0), member(0, 0)], 0), 9),
+    ("state", state(2, [pair(0, 0, 0), member(0, 0)], 1), 9),
+    # 15 before 10: a constant without an object, with two, and two with the same.
+    ("state", state(2, [], 1), 15),
+    ("state", state(2, [], 0), 10),
+    ("state", state(2, [name(0, 0), name(0, 1), name(1, 1)], 3), 15),
+    ("state", state(2, [name(0, 0), name(0, 1), name(1, 1)], 0), 10),
+    ("state", state(2, [member(0, 0), name(0, 1), name(1, 1)], 0), 15),
+    ("state", state(2, [member(0, 0), name(0, 1), name(1, 1)], 1), 10),
+    # 15 before 10 with marks too: the used mark without an object, and with two.
+    ("query", concept([(MARK, 1)]), 0),
+    ("state", state(2, [name(0, 0), name(1, 1)], 1), 15),
+    ("state", state(2, [name(0, 0), name(1, 1)], 0), 10),
+    ("state", state(2, [name(0, 0), name(1, 1), choice(1, 0), choice(1, 1)], 2), 15),
+    ("state", state(2, [name(0, 0), name(1, 1), choice(1, 0), choice(1, 1)], 0), 10),
     # 10: a declared constant has no object or several, or two constants that are not loose have the same object.
     ("schema", schema(1, 0, 2), 0),
     ("state", state(2, []), 10),

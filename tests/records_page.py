@@ -89,7 +89,7 @@ def shapes(rows):
         hold(f"{record}, length", length, f"{len(names)} + 2n")
         hold(f"{record}, length in the header", len(names) + 2 * 5, C[f"{record.upper()}_WORDS"](5))
         for place, name in enumerate(names):
-            hold(f"{record}, place of {name}", place, C[f"AT_{name.upper()}"])
+            hold(f"{record}, place of {name}", place, C[f"AT_{name.upper().replace(' ', '_')}"])
 
 
 def roles(rows):
@@ -165,6 +165,18 @@ def facts(rows):
         past = last + 1
 
 
+def class_facts(rows):
+    """The third size word of a state: where the code has it, and which kinds the page, the code and words.py count there."""
+    place = in_function("state", "class_facts", r"word\(words, (\w+)\)")
+    past = in_function("state", "is_class_fact", r"kind_at\(words, i\) < (\w+)")
+    hold("place of class facts in the code", C["AT_CLASS_FACTS"], place)
+    hold("kinds of class facts", [kinds for kinds, name, *_ in rows if name == "class"], [f"0 to {past - 1}"],
+         re.findall(r"\*class facts\*, the facts of kinds (\d+ to \d+)", " ".join(PAGE.split())))
+    for kinds, name, *_ in rows:
+        for kind in map(int, kinds.split(" to ")):
+            hold(f"class facts of kind {kind} in words.py", int(name == "class"), words.state(1, [(kind * CODE["OBJECT_PART"], 0)])[place])
+
+
 def sets(rows):
     width, = re.findall(r"A set is an unsigned number of (\d+) bits", " ".join(PAGE.split()))
     hold("sets in the header", [row[0] for row in rows] * len(ROLES), re.findall(rf"uint{width}_t \*(\w+)", HEADER))
@@ -183,6 +195,12 @@ def looked_at(source, name):
     return [look for part in found for look in (looked_at(*left[part]) if part in left else [part])]
 
 
+def given(record):
+    """The numbers that a record's check gives, in its order: its own, then those of `answer`, with which it ends."""
+    numbers = dict(re.findall(r"Answer::(\w+)\S* => (\w+),", function(record, "number")))
+    return [value(numbers[name]) for part in (f"check_{record}", "answer") for name in re.findall(r"Answer::(\w+)", function(record, part))]
+
+
 def refusals(rows, orders, lent):
     page = {}
     for n, name, record, _ in rows:
@@ -191,11 +209,13 @@ def refusals(rows, orders, lent):
     for name in re.findall(r"`(bikuvoa_\w+)`", PAGE):
         hold(f"{name} is in the header", f"{name}(" in HEADER, True)
     text = " ".join(PAGE.split())
-    first, second, third = map(int, re.search(r"only a schema is checked by (\d+), (\d+) and (\d+), in this order", text).groups())
-    hold("refusals of a schema by number", page["schema"], sorted([first, second, third]))
-    for record, numbers in (("schema", [first, second, third]), ("concept", page["concept"]), ("state", page["state"])):
+    told = re.findall(r"a (\w+) (?:is checked )?by ([\d, and]+), in this order", text)
+    checked = {"concept": page["concept"], **{record: [int(n) for n in re.findall(r"\d+", numbers)] for record, numbers in told}}
+    for record in ("schema", "concept", "state"):
+        hold(f"refusals of a {record} by number", page[record], sorted(checked[record]))
         code = re.findall(r"=> (\w+),", function(record, "number"))
-        hold(f"refusals of a {record}", [0, *numbers], [value(n) for n in code])
+        hold(f"refusals of a {record}", [0, *checked[record]], [value(n) for n in code])
+        hold(f"refusals of a {record} as they are given", [*checked[record], 0], given(record))
     hold("functions", [row[0] for row in orders], re.findall(r"^uint16_t bikuvoa_(\w+)\(", HEADER, re.M))
     hold("functions with lent words", [row[0] for row in lent], [entry for entry, text in orders if "lent words" in text])
     hold("refusals of a catalogue", ["bad_layout", *(f"return {n}" for n in page["catalogue"]), "check_view"],
@@ -361,6 +381,7 @@ def example(schema, query, view, state, sorts, naming, shown, views, groups):
     catalogue(views, groups, names, sorts)
     record, meanings = spelled(state, CODE["OBJECT_PART"])
     sizes, entries = split(record, "state")
+    hold("words of the state", record, words.state(sizes[C["AT_OBJECTS"]], entries))
     hold("meaning of the state", meanings[len(sizes):], [names.fact(*entry) for entry in entries])
     stroke(names, sorts)
     return axioms, sizes, entries
@@ -409,6 +430,7 @@ def main():
     sorts = numbered(*page["sort, name"], "concept", "token_of", "faulty_token", "sort")
     tokens(*page["sort, name"])
     facts(*page["kinds, name"])
+    class_facts(*page["kinds, name"])
     naming = sets(*page["set, bits"])
     lent, = page["function, least lent words"]
     refusals(*page["number, in the header"], *page["function, looks at, in this order"], lent)

@@ -30,8 +30,10 @@ def catalogue(views):
     return [len(views), *map(len, views), *(word for view in views for word in view)]
 
 
-def state(objects, facts):
-    return [objects, len(facts), *(left for left, _ in facts), *(right for _, right in facts)]
+def state(objects, facts, class_facts=None):
+    counted = sum(left // 512 < 24 for left, _ in facts)
+    return [objects, len(facts), counted if class_facts is None else class_facts, *(left for left, _ in facts),
+            *(right for _, right in facts)]
 
 
 def member(a, o):

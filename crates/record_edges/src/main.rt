@@ -12,7 +12,7 @@ use records::schema::Signature;
 use records::schema::check_schema;
 use records::state::check_state;
 
-const WORDS: usize = 131_072;
+const WORDS: usize = 163_840;
 
 const BYTES: usize = 2 * WORDS;
 
