@@ -2,8 +2,8 @@
 use records::schema::SchemaAnswer;
 use records::schema::axioms;
 use records::schema::check_schema;
-use records::state::StateAnswer;
-use records::state::check_state;
+use records::state_check::StateAnswer;
+use records::state_check::check_state;
 ghost use mathlib.Core.Path.{_≡_};
 ghost use Rattle.judge.specs.LegalState.{legalAnswer};
 

@@ -10,7 +10,7 @@ use records::marks::used;
 use records::schema::SchemaAnswer;
 use records::schema::Signature;
 use records::schema::check_schema;
-use records::state::check_state;
+use records::state_check::check_state;
 
 const WORDS: usize = 163_840;
 

@@ -13,7 +13,7 @@ use Rattle.records.specs.declared.token.Token.{Token}
 use Rattle.records.specs.declared.token.Token.the-variants.{Class, Everything, Constant, Both, Empty, Forward, Backward, Reached, Common, Mark}
 use Rattle.records.specs.declared.schema.SchemaAnswer.the-variants as schema
 use Rattle.records.specs.declared.concept.ConceptAnswer.the-variants as concept
-use Rattle.records.specs.declared.state.StateAnswer.the-variants as state
+use Rattle.records.specs.declared.state_check.StateAnswer.the-variants as state
 use Rattle.records.specs.Finite.{any, count}
 use Rattle.records.specs.Layout.{schemaLayout, conceptLayout, stateLayout, sizeAt, entries, leftAt, rightAt, maxClasses, maxAttributes, maxConstants, maxAxioms, maxMarks, maxTokens, maxObjects, maxFacts}
 use Rattle.records.specs.SchemaRecord.{signatureOf, schemaOf, axiomKind}

@@ -6,7 +6,7 @@ use mathlib.Core.Path.{_≡_}
 use Rattle.records.specs.declared.schema.Signature.{Signature}
 use Rattle.records.specs.declared.schema.SchemaAnswer.the-variants as schema
 use Rattle.records.specs.declared.concept.ConceptAnswer.the-variants as concept
-use Rattle.records.specs.declared.state.StateAnswer.the-variants as state
+use Rattle.records.specs.declared.state_check.StateAnswer.the-variants as state
 use Rattle.records.specs.SchemaRecord.{signatureOf}
 use Rattle.records.specs.SchemaRefusal.{refusal-1, refusal-14, refusal-2, schemaAnswer}
 use Rattle.records.specs.Helpers.Scan.{contentAnswer, sortedAnswer}

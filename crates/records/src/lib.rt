@@ -12,5 +12,6 @@ mod scan;
 pub mod schema;
 mod sorts;
 pub mod state;
+pub mod state_check;
 pub mod token;
 pub mod writing;

@@ -19,8 +19,8 @@ use Rattle.records.specs.declared.scan.Scan.{Scan}
 use Rattle.records.specs.declared.named.Named.{Named}
 use Rattle.records.specs.declared.concept.ConceptAnswer.{ConceptAnswer}
 use Rattle.records.specs.declared.concept.ConceptAnswer.the-variants as concept
-use Rattle.records.specs.declared.state.StateAnswer.{StateAnswer}
-use Rattle.records.specs.declared.state.StateAnswer.the-variants as state
+use Rattle.records.specs.declared.state_check.StateAnswer.{StateAnswer}
+use Rattle.records.specs.declared.state_check.StateAnswer.the-variants as state
 use Rattle.records.specs.Finite.{any, setOf}
 use Rattle.records.specs.State.{repeats}
 use Rattle.records.specs.Layout.{maxClasses, maxAttributes, maxConstants, maxMarks, constantKinds, factKinds}

@@ -1,6 +1,6 @@
 -- Whether a pair is meant.
-use Rattle.records.proofs.state.suits_kind.Statement.{statement}
-use Rattle.records.proofs.state.suits_kind.Tie as tie
+use Rattle.records.proofs.state_check.suits_kind.Statement.{statement}
+use Rattle.records.proofs.state_check.suits_kind.Tie as tie
 
 returns : tie.Need-returns
 returns c = rw (c .if1 .taken)

@@ -9,8 +9,8 @@ use mathlib.Core.Bool.{false}
 use mathlib.Core.Path.{_≡_, sym}
 use native.Mathlib.Omega.{arith}
 use native.Mathlib.Nat.{le-antisymm}
-use Rattle.records.proofs.state.repeats.Statement.{statement}
-use Rattle.records.proofs.state.repeats.Tie as tie
+use Rattle.records.proofs.state_check.repeats.Statement.{statement}
+use Rattle.records.proofs.state_check.repeats.Tie as tie
 
 abbrev Inv-loop : tie.InvT-loop
 Inv-loop s named a b₀ b = (b ≤ a) × (any b (clashing s (namedIn named) a) ≡ false)

@@ -1,6 +1,6 @@
 -- Test by test.
-use Rattle.records.proofs.state.answer.Statement.{statement}
-use Rattle.records.proofs.state.answer.Tie as tie
+use Rattle.records.proofs.state_check.answer.Statement.{statement}
+use Rattle.records.proofs.state_check.answer.Tie as tie
 
 returns : tie.Need-returns
 returns c = rw (c .if1 .taken)

@@ -2,8 +2,8 @@
 use Rattle.records.specs.StateRefusal.{ascends}
 use borrow.Author.Needs.{needs}
 use native.Mathlib.Numerals.{add-one}
-use Rattle.records.proofs.state.ascends.Statement.{statement}
-use Rattle.records.proofs.state.ascends.Tie as tie
+use Rattle.records.proofs.state_check.ascends.Statement.{statement}
+use Rattle.records.proofs.state_check.ascends.Tie as tie
 
 state-layout-requires : tie.Need-state-layout-requires
 state-layout-requires c κs = tt

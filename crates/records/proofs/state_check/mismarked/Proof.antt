@@ -9,8 +9,8 @@ use mathlib.Core.Bool.{false}
 use mathlib.Core.Path.{_≡_, sym}
 use native.Mathlib.Omega.{arith}
 use native.Mathlib.Nat.{le-antisymm}
-use Rattle.records.proofs.state.mismarked.Statement.{statement}
-use Rattle.records.proofs.state.mismarked.Tie as tie
+use Rattle.records.proofs.state_check.mismarked.Statement.{statement}
+use Rattle.records.proofs.state_check.mismarked.Tie as tie
 
 abbrev Inv-loop : tie.InvT-loop
 Inv-loop s counts k₀ k = (k ≤ maxMarks) × (any k (mismarkedAt s counts) ≡ false)

@@ -1,8 +1,8 @@
 -- Which range the kind is in.
 use borrow.Author.Tests.{le-ltb, lt-ltb}
 use Rattle.records.specs.Layout.{attributeKinds, constantKinds, markKinds}
-use Rattle.records.proofs.state.declares_kind.Statement.{statement}
-use Rattle.records.proofs.state.declares_kind.Tie as tie
+use Rattle.records.proofs.state_check.declares_kind.Statement.{statement}
+use Rattle.records.proofs.state_check.declares_kind.Tie as tie
 
 returns : tie.Need-returns
 returns c = rw (lt-ltb _ attributeKinds (c .before .if1 .taken))

@@ -5,8 +5,8 @@ use borrow.Author.Tests.{leb-true, ltb-true}
 use lib.Dec.{leb}
 use Rattle.records.specs.Layout.{constantKinds, factKinds}
 use native.Mathlib.Omega.{arith}
-use Rattle.records.proofs.state.slot.Statement.{statement}
-use Rattle.records.proofs.state.slot.Tie as tie
+use Rattle.records.proofs.state_check.slot.Statement.{statement}
+use Rattle.records.proofs.state_check.slot.Tie as tie
 
 sub-result : tie.Need-sub-result
 sub-result c = leb-true _ _ (and-left _ _ (c .if1 .taken))

@@ -3,8 +3,8 @@ use Rattle.records.proofs.StateScanLaws.{last-later}
 use Rattle.records.specs.Helpers.Scan.{lastPasses}
 use borrow.Author.Needs.{needs}
 use mathlib.Core.Path.{_∙_, sym}
-use Rattle.records.proofs.state.follows.Statement.{statement}
-use Rattle.records.proofs.state.follows.Tie as tie
+use Rattle.records.proofs.state_check.follows.Statement.{statement}
+use Rattle.records.proofs.state_check.follows.Tie as tie
 
 sub-ascends : tie.Need-sub-ascends
 sub-ascends c = search needs

@@ -1,7 +1,7 @@
 -- The constants, then the marks.
 use borrow.Author.Needs.{needs}
-use Rattle.records.proofs.state.bad_names.Statement.{statement}
-use Rattle.records.proofs.state.bad_names.Tie as tie
+use Rattle.records.proofs.state_check.bad_names.Statement.{statement}
+use Rattle.records.proofs.state_check.bad_names.Tie as tie
 
 misnamed-requires : tie.Need-misnamed-requires
 misnamed-requires c κs = search needs

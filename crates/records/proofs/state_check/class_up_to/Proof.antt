@@ -3,8 +3,8 @@ use Rattle.records.proofs.StateScanLaws.{last-later}
 use Rattle.records.specs.Helpers.Scan.{lastPasses}
 use borrow.Author.Needs.{needs}
 use mathlib.Core.Path.{_∙_, sym}
-use Rattle.records.proofs.state.class_up_to.Statement.{statement}
-use Rattle.records.proofs.state.class_up_to.Tie as tie
+use Rattle.records.proofs.state_check.class_up_to.Statement.{statement}
+use Rattle.records.proofs.state_check.class_up_to.Tie as tie
 
 sub-is-class-fact : tie.Need-sub-is-class-fact
 sub-is-class-fact c = search needs

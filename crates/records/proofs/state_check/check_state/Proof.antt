@@ -8,8 +8,8 @@ use Rattle.records.specs.Helpers.Scan.{sortedAnswer}
 use borrow.Author.Needs.{needs}
 use mathlib.Core.Path.{_∙_, ap₂, sym}
 use native.Mathlib.Omega.{arith}
-use Rattle.records.proofs.state.check_state.Statement.{statement}
-use Rattle.records.proofs.state.check_state.Tie as tie
+use Rattle.records.proofs.state_check.check_state.Statement.{statement}
+use Rattle.records.proofs.state_check.check_state.Tie as tie
 
 abbrev Inv-loop : tie.InvT-loop
 Inv-loop s words n ascending₀ counts₀ named₀ i₀ ascending counts named i = (i ≤ n) × Kept s words i ascending counts named

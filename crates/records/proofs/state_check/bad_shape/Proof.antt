@@ -1,8 +1,8 @@
 -- The tests of the definition.
 use Rattle.records.specs.StateRefusal.{refusal-7}
 use borrow.Author.Needs.{needs}
-use Rattle.records.proofs.state.bad_shape.Statement.{statement}
-use Rattle.records.proofs.state.bad_shape.Tie as tie
+use Rattle.records.proofs.state_check.bad_shape.Statement.{statement}
+use Rattle.records.proofs.state_check.bad_shape.Tie as tie
 
 facts-requires : tie.Need-facts-requires
 facts-requires c κs = tt

@@ -11,8 +11,8 @@ use mathlib.Core.Bool.{false}
 use mathlib.Core.Path.{_≡_, refl, sym, _∙_}
 use native.Mathlib.Omega.{arith}
 use native.Mathlib.Nat.{le-antisymm}
-use Rattle.records.proofs.state.misnamed.Statement.{statement}
-use Rattle.records.proofs.state.misnamed.Tie as tie
+use Rattle.records.proofs.state_check.misnamed.Statement.{statement}
+use Rattle.records.proofs.state_check.misnamed.Tie as tie
 
 abbrev Inv-loop : tie.InvT-loop
 Inv-loop s counts named a₀ end a = (a ≤ end) × (end ≡ s .constants) × (any a (misnamedAt s counts named) ≡ false)

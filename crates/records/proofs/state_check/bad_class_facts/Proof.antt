@@ -2,8 +2,8 @@
 use borrow.Author.Needs.{needs}
 use mathlib.Core.Path.{_∙_}
 use Rattle.records.proofs.OrderLaws.{ends-tell}
-use Rattle.records.proofs.state.bad_class_facts.Statement.{statement}
-use Rattle.records.proofs.state.bad_class_facts.Tie as tie
+use Rattle.records.proofs.state_check.bad_class_facts.Statement.{statement}
+use Rattle.records.proofs.state_check.bad_class_facts.Tie as tie
 
 facts-requires : tie.Need-facts-requires
 facts-requires c κs = tt

@@ -1,8 +1,8 @@
 -- The tests of the definition, on the words at the place.
 use Rattle.records.specs.StateRefusal.{faultyFact}
 use borrow.Author.Needs.{needs}
-use Rattle.records.proofs.state.faulty_fact.Statement.{statement}
-use Rattle.records.proofs.state.faulty_fact.Tie as tie
+use Rattle.records.proofs.state_check.faulty_fact.Statement.{statement}
+use Rattle.records.proofs.state_check.faulty_fact.Tie as tie
 
 objects-requires : tie.Need-objects-requires
 objects-requires c κs = tt
