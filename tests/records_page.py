@@ -1,6 +1,6 @@
 #!/usr/bin/env python3
 """Holds docs/RECORDS.md to the code: the numbers of its tables to the Rattle sources, to the C header and to tests/words.py, and
-its example word by word to the records of example/. What README.md repeats (axioms, limits, the printed state) is held to the
+its example word by word to the records of example/. What README.md repeats (limits, lent words, stack) is held to the
 page, and to the program where it has been built. Sources are read as text: a number that is written in another way fails too.
 """
 import re
@@ -16,7 +16,7 @@ PAGE = (ROOT / "docs" / "RECORDS.md").read_text()
 README = (ROOT / "README.md").read_text()
 HEADER = (ROOT / "include" / "bikuvoa.h").read_text()
 SOURCE = {name: "".join((ROOT / "crates" / path).read_text() for path in paths.split()) for name, paths in {
-    "schema": "records/src/schema.rt", "state": "records/src/state.rt",
+    "schema": "records/src/schema.rt", "state": "records/src/state.rt records/src/state_check.rt",
     "concept": "records/src/token.rt records/src/sorts.rt records/src/marks.rt records/src/concept.rt",
     "named": "records/src/named.rt", "check": "records/src/check.rt",
     "select": "judge/src/select.rt", "legal": "judge/src/legal.rt", "counterexample": "judge/src/counterexample.rt",
@@ -207,7 +207,8 @@ def refusals(rows, orders, lent):
         page.setdefault(record, []).append(int(n))
         hold(f"refusal {n} in the header", int(n), C.get(name))
     for name in re.findall(r"`(bikuvoa_\w+)`", PAGE):
-        hold(f"{name} is in the header", f"{name}(" in HEADER, True)
+        is_program = (ROOT / "crates" / name / "src" / "main.rt").exists()
+        hold(f"{name} is in the header or a program", f"{name}(" in HEADER or is_program, True)
     text = " ".join(PAGE.split())
     told = re.findall(r"a (\w+) (?:is checked )?by ([\d, and]+), in this order", text)
     checked = {"concept": page["concept"], **{record: [int(n) for n in re.findall(r"\d+", numbers)] for record, numbers in told}}
@@ -369,9 +370,8 @@ def example(schema, query, view, state, sorts, naming, shown, views, groups):
     record, meanings = spelled(schema, CODE["BYTE_PART"])
     names = Names(*meanings[:2])
     sizes, entries = split(record, "schema")
-    axioms = [names.axiom(*entry) for entry in entries]
     hold("words of schema.bin", record, stored("schema"))
-    hold("meaning of schema.bin", meanings[len(sizes):], axioms)
+    hold("meaning of schema.bin", meanings[len(sizes):], [names.axiom(*entry) for entry in entries])
     for name, table in (("query", query), ("view", view)):
         record, meanings = spelled(table)
         sizes, entries = split(record, "concept")
@@ -384,42 +384,34 @@ def example(schema, query, view, state, sorts, naming, shown, views, groups):
     hold("words of the state", record, words.state(sizes[C["AT_OBJECTS"]], entries))
     hold("meaning of the state", meanings[len(sizes):], [names.fact(*entry) for entry in entries])
     stroke(names, sorts)
-    return axioms, sizes, entries
+    return sizes, entries
 
 
-def decided(kept, query, view):
-    """What the program prints under those of the club's axioms that are kept."""
-    sizes, axioms = split(CLUB, "schema")
-    cut = words.schema(*sizes[:C["AT_AXIOMS"]], [axioms[i] for i in kept], sizes[C["AT_LOOSE"]])
-    files = triples.files(ROOT, cut, words.concept(query), words.concept(view))
-    return run({path.name: content for path, content in files.items()})
-
-
-def readme(axioms, sizes, entries, most, least):
+def readme(most, least):
     text = " ".join(README.split())
-    hold("README.md, axioms", re.findall(r"^    (\d+)  (.+)$", README, re.M), [(str(i), axiom) for i, axiom in enumerate(axioms)])
     for name, n in most.items():
         said = f"{n:,} in a view" if name == "steps of a view" else f"{n:,} {name}".replace(" of a ", " in a ")
         hold(f"README.md says {said}", bool(re.search(rf"(?<![\d,]){said}\b", text)), True)
     hold("README.md, stack", re.findall(r"give each thread (\d+) KB", text), [str(C["STACK_BYTES"] >> 10)])
     hold("README.md, lent words", re.findall(r"([\d,]+) words \(([\d,]+) bytes\)", text), [(f"{least:,}", f"{2 * least:,}")])
+
+
+def programs(sizes, entries):
+    """What the page says that the programs print."""
+    text = " ".join(PAGE.split())
     printed, marked = ([line.strip() for line in block.splitlines()]
-                       for block in re.findall(r"^    OPEN.*\n(?:    \d+ \d+\n)+", README, re.M))
-    hold("README.md, the state", printed[1:], [f"{left} {right}" for left, right in entries])
+                       for block in re.findall(r"^    OPEN.*\n(?:    \d+ \d+\n)+", PAGE, re.M))
+    hold("what is printed of the state", printed[1:], [f"{left} {right}" for left, right in entries])
     hold("sizes of the state", (sizes[C["AT_OBJECTS"]], sizes[C["AT_FACTS"]]), (number(printed[0].split()[1]), len(entries)))
     told = re.findall(r"a state of (\d+) objects in which object (\d+)", text)
-    hold("README.md, what it says of the state", told, [tuple(printed[0].split()[1:])])
+    hold("what is said of the state", told, [tuple(printed[0].split()[1:])])
+    order = re.search(r"^    \d+\n(?:    [\d ]+\n|\n)+(?=that is, a line)", PAGE, re.M).group()
+    hold("the printed order", [line.strip() for line in order.strip().splitlines()], triples.ORDER_LINES.decode().splitlines())
     judged(printed, CLUB, RECORDED, ROWERS)
     judged(marked, STROKED, STROKE_BEATS, ATTENDED_BEATS)
     if PROGRAM.exists():
-        every = range(len(axioms))
-        enough = [int(n) for n in re.findall(r"\d+", re.search(r"Axioms ([\d, and]+) are enough", text).group(1))]
-        hold("README.md, what is printed", printed, decided(every, RECORDED, ROWERS))
-        for folder, lines in (("stroke", ["HELD"]), ("stroke/attended", marked)):
-            hold(f"README.md, {folder}", lines, run({f"{name}.bin": words.words(stored(f"{folder}/{name}")) for name in ("schema", "query", "view")}))
-        hold("README.md, enough axioms", ["HELD"], decided(enough, ROWERS, RECORDED))
-        for i in enough:
-            hold(f"README.md, without axiom {i}", "OPEN", decided([j for j in every if j != i], ROWERS, RECORDED)[0].split()[0])
+        for folder, lines in ((".", ["HELD"]), ("reversed", printed), ("stroke", ["HELD"]), ("stroke/attended", marked)):
+            hold(f"the program in {folder}", lines, run({f"{name}.bin": words.words(stored(f"{folder}/{name}")) for name in ("schema", "query", "view")}))
 
 
 def main():
@@ -436,7 +428,8 @@ def main():
     refusals(*page["number, in the header"], *page["function, looks at, in this order"], lent)
     least = lent_words(lent, *page["lent words, word"])
     shown = [*page["concept, classes"], *page["view, what"], *page["group, views"]]
-    readme(*example(*page["word, value"], sorts, naming, *shown), most, least)
+    programs(*example(*page["word, value"], sorts, naming, *shown))
+    readme(most, least)
     print("\n".join(faults) if faults else f"records page: {len(held)} facts held to the code")
     return 1 if faults else 0
 
