@@ -1,0 +1,53 @@
+//! A view that no axiom speaks of: a query is held by it only if no legal state has an
+//! object of the query.
+
+use super::question::Question;
+use crate::model::{Concept, File, Node, Path, Step};
+use crate::source::Span;
+use bikuvoa::layout::{self, Pair, MAX_ATTRIBUTES, MAX_CLASSES};
+use bikuvoa::{Attribute, Class};
+
+/// Asks whether the query is empty, by a class that the file does not declare, or else
+/// by having a value of a further attribute; nothing if there can be neither.
+pub fn is_empty(file: &File, query: &Concept) -> Option<Question> {
+    let mut signature = file.names.signature();
+    let node = if signature.classes < MAX_CLASSES {
+        signature.classes += 1;
+        Node::Class(Class(signature.classes - 1))
+    } else if signature.attributes < MAX_ATTRIBUTES {
+        signature.attributes += 1;
+        has_value(Attribute(signature.attributes - 1))
+    } else {
+        return None;
+    };
+    let axioms: Vec<Pair> = file
+        .axioms
+        .iter()
+        .map(|stated| stated.axiom.words())
+        .collect();
+    Some(Question {
+        schema: layout::schema(signature, &axioms),
+        query: query.words(),
+        view: unplaced(node).words(),
+    })
+}
+
+fn has_value(attribute: Attribute) -> Node {
+    let step = Step {
+        span: Span::default(),
+        attribute,
+        backward: false,
+        landing: unplaced(Node::Everything),
+    };
+    Node::Reached(Path {
+        span: Span::default(),
+        steps: vec![step],
+    })
+}
+
+fn unplaced(node: Node) -> Concept {
+    Concept {
+        span: Span::default(),
+        node,
+    }
+}

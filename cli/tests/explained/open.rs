@@ -1,0 +1,103 @@
+//! Answers OPEN, held to the library.
+
+use super::{file, state_of, value::Value, words};
+use bik::explain::Explanation;
+use bik::model::File;
+use bikuvoa::layout::{self, Pair};
+use bikuvoa::{Fact, Object};
+
+/// That the state that is shown, read again, is a counterexample of which nothing can
+/// be left out, and that the parts of the view are told as they are selected. Gives
+/// the state's record.
+pub fn check(asked: &File, answer: &Explanation) -> Vec<u16> {
+    let [query, view] = ["query", "view"].map(|name| words(asked, name));
+    let schema = asked.schema();
+    let shown_by = |state: &[u16]| {
+        let shown = bikuvoa::counterexample(&schema, &query, &view, state);
+        shown.unwrap_or(None)
+    };
+    let text = answer.text();
+    let with_state = file("drawn.bik", &(asked.source.text.clone() + &state_of(&text)));
+    let state = &with_state.states[0];
+    assert_eq!(shown_by(&state.words()), Some(Object(0)));
+    let facts: Vec<Fact> = state.facts.iter().map(|(fact, _)| *fact).collect();
+    let objects = state.objects.len() as u16;
+    for left_out in 0..facts.len() {
+        let mut fewer = facts.clone();
+        fewer.remove(left_out);
+        assert_eq!(shown_by(&record(objects, &fewer)), None);
+    }
+    for left_out in 0..objects {
+        assert_eq!(shown_by(&without(objects, &facts, left_out)), None);
+    }
+    check_parts(asked, answer, &state.without_choices());
+    state.words()
+}
+
+/// That each part is told as the library selects the object by it.
+fn check_parts(asked: &File, answer: &Explanation, state: &[u16]) {
+    let parts = asked.query("view").expect("a view").concept.parts();
+    let holds = parts.iter().map(|part| {
+        let selected = bikuvoa::select(&asked.schema(), &part.words(), state);
+        selected.expect("accepted").contains(&Object(0))
+    });
+    let holds: Vec<bool> = holds.collect();
+    let text = answer.text();
+    let told: Vec<bool> = text.lines().filter_map(verdict).collect();
+    assert_eq!(told, holds, "{text}");
+    let json = Value::read(&answer.json()).expect("JSON");
+    let told = json.get("parts").list();
+    assert_eq!(told.len(), holds.len());
+    for (part, holds) in told.iter().zip(holds) {
+        assert_eq!(part.get("holds").truth(), holds);
+        assert_eq!(part.get("misses").list().is_empty(), holds);
+    }
+}
+
+/// What a line says of a part.
+fn verdict(line: &str) -> Option<bool> {
+    match line.get(..7)? {
+        "  yes  " => Some(true),
+        "  NO   " => Some(false),
+        _ => None,
+    }
+}
+
+pub fn record(objects: u16, facts: &[Fact]) -> Vec<u16> {
+    let mut facts: Vec<Pair> = facts.iter().map(|fact| fact.words()).collect();
+    facts.sort_unstable();
+    layout::state(objects, &facts)
+}
+
+/// The state without that object.
+fn without(objects: u16, facts: &[Fact], left_out: u16) -> Vec<u16> {
+    let number = |Object(number): Object| {
+        (number != left_out).then(|| Object(number - u16::from(number > left_out)))
+    };
+    let renumbered = facts.iter().filter_map(|&fact| {
+        Some(match fact {
+            Fact::Member { class, object } => Fact::Member {
+                class,
+                object: number(object)?,
+            },
+            Fact::Pair {
+                attribute,
+                first,
+                second,
+            } => Fact::Pair {
+                attribute,
+                first: number(first)?,
+                second: number(second)?,
+            },
+            Fact::Name { constant, object } => Fact::Name {
+                constant,
+                object: number(object)?,
+            },
+            Fact::Choice { mark, object } => Fact::Choice {
+                mark,
+                object: number(object)?,
+            },
+        })
+    });
+    record(objects - 1, &renumbered.collect::<Vec<_>>())
+}
