@@ -1,0 +1,73 @@
+#!/usr/bin/env python3
+"""Holds the transcripts of README.md to what its commands print. In an indented block a line that begins with `$ ` is a command;
+the lines up to the next one are what it prints on standard output and standard error, and a last line such as `(status 1)` is
+its status where that is not 0. The commands run in the root of the repository, with the built `bik` on the PATH. Another page
+may be given as an argument.
+"""
+import difflib
+import os
+import pathlib
+import re
+import subprocess
+import sys
+
+ROOT = pathlib.Path(__file__).resolve().parent.parent
+PROGRAMS = ROOT / "cli" / "target" / "release"
+INDENT, PROMPT = "    ", "$ "
+SECONDS = 60
+
+
+def blocks(page):
+    """The indented blocks, without their indent; a blank line between indented ones is of the block."""
+    for match in re.finditer(rf"(?:^{INDENT}.*\n(?:[ \t]*\n(?=(?:[ \t]*\n)*{INDENT}))*)+", page + "\n", re.M):
+        yield [line.removeprefix(INDENT) for line in match[0].splitlines()]
+
+
+def transcripts(page):
+    """Each command with the lines that are shown below it."""
+    found = []
+    for block in blocks(page):
+        if not any(line.startswith(PROMPT) for line in block):
+            continue
+        assert block[0].startswith(PROMPT), f"what stands above the first command: {block[0]!r}"
+        for line in block:
+            if line.startswith(PROMPT):
+                found.append((line.removeprefix(PROMPT), []))
+            else:
+                found[-1][1].append(line)
+    return found
+
+
+def printed(command):
+    """The lines that the command prints, and its status if that is not 0."""
+    path = os.pathsep.join([str(PROGRAMS), os.environ.get("PATH", "")])
+    done = subprocess.run(["bash", "-c", command], cwd=ROOT, env={**os.environ, "PATH": path}, stdin=subprocess.DEVNULL,
+                          stdout=subprocess.PIPE, stderr=subprocess.STDOUT, timeout=SECONDS)
+    lines = done.stdout.decode(errors="replace").splitlines()
+    return lines + [f"(status {done.returncode})"] * (done.returncode != 0)
+
+
+def without_end(lines):
+    """The lines without blank ones at the end, which a page does not show."""
+    while lines and not lines[-1].strip():
+        lines = lines[:-1]
+    return lines
+
+
+def main():
+    page = pathlib.Path(sys.argv[1]) if len(sys.argv) > 1 else ROOT / "README.md"
+    assert (PROGRAMS / "bik").is_file(), f"{PROGRAMS / 'bik'} has not been built"
+    found = transcripts(page.read_text())
+    assert found, f"{page} has no transcript"
+    wrong = 0
+    for command, shown in found:
+        shown, lines = without_end(shown), without_end(printed(command))
+        if shown != lines:
+            wrong += 1
+            print(f"{page.name}: {PROMPT}{command}", *difflib.unified_diff(shown, lines, "shown", "printed", lineterm=""), sep="\n")
+    print(f"transcript: {len(found)} commands, {wrong} of them print something else")
+    return 1 if wrong else 0
+
+
+if __name__ == "__main__":
+    sys.exit(main())
