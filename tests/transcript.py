@@ -1,8 +1,8 @@
 #!/usr/bin/env python3
 """Holds the transcripts of README.md to what its commands print. In an indented block a line that begins with `$ ` is a command;
 the lines up to the next one are what it prints on standard output and standard error, and a last line such as `(status 1)` is
-its status where that is not 0. The commands run in the root of the repository, with the built `bik` on the PATH. Another page
-may be given as an argument.
+its status where that is not 0. The commands run in a folder of their own that has `example/`, with the built `bik` on the PATH.
+Another page may be given as an argument.
 """
 import difflib
 import os
@@ -10,6 +10,7 @@ import pathlib
 import re
 import subprocess
 import sys
+import tempfile
 
 ROOT = pathlib.Path(__file__).resolve().parent.parent
 PROGRAMS = ROOT / "cli" / "target" / "release"
@@ -38,10 +39,10 @@ def transcripts(page):
     return found
 
 
-def printed(command):
+def printed(command, folder):
     """The lines that the command prints, and its status if that is not 0."""
     path = os.pathsep.join([str(PROGRAMS), os.environ.get("PATH", "")])
-    done = subprocess.run(["bash", "-c", command], cwd=ROOT, env={**os.environ, "PATH": path}, stdin=subprocess.DEVNULL,
+    done = subprocess.run(["bash", "-c", command], cwd=folder, env={**os.environ, "PATH": path}, stdin=subprocess.DEVNULL,
                           stdout=subprocess.PIPE, stderr=subprocess.STDOUT, timeout=SECONDS)
     lines = done.stdout.decode(errors="replace").splitlines()
     return lines + [f"(status {done.returncode})"] * (done.returncode != 0)
@@ -60,11 +61,13 @@ def main():
     found = transcripts(page.read_text())
     assert found, f"{page} has no transcript"
     wrong = 0
-    for command, shown in found:
-        shown, lines = without_end(shown), without_end(printed(command))
-        if shown != lines:
-            wrong += 1
-            print(f"{page.name}: {PROMPT}{command}", *difflib.unified_diff(shown, lines, "shown", "printed", lineterm=""), sep="\n")
+    with tempfile.TemporaryDirectory() as folder:
+        (pathlib.Path(folder) / "example").symlink_to(ROOT / "example")
+        for command, shown in found:
+            shown, lines = without_end(shown), without_end(printed(command, folder))
+            if shown != lines:
+                wrong += 1
+                print(f"{page.name}: {PROMPT}{command}", *difflib.unified_diff(shown, lines, "shown", "printed", lineterm=""), sep="\n")
     print(f"transcript: {len(found)} commands, {wrong} of them print something else")
     return 1 if wrong else 0
 

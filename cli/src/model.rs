@@ -119,7 +119,9 @@ impl Names {
             classes: self.classes.len() as u16,
             attributes: self.attributes.len() as u16,
             constants: self.constants.len() as u16,
-            loose: loose.fold(0, |set, (k, _)| set | 1u16.checked_shl(k as u32).unwrap_or(0)),
+            loose: loose.fold(0, |set, (k, _)| {
+                set | 1u16.checked_shl(k as u32).unwrap_or(0)
+            }),
         }
     }
 
@@ -139,7 +141,11 @@ impl Names {
 impl File {
     /// The schema's record.
     pub fn schema(&self) -> Vec<u16> {
-        let axioms: Vec<Pair> = self.axioms.iter().map(|stated| stated.axiom.words()).collect();
+        let axioms: Vec<Pair> = self
+            .axioms
+            .iter()
+            .map(|stated| stated.axiom.words())
+            .collect();
         layout::schema(self.names.signature(), &axioms)
     }
 
@@ -231,7 +237,11 @@ impl StateFrame {
     }
 
     fn record(&self, keep: impl Fn(&Fact) -> bool) -> Vec<u16> {
-        let facts = self.facts.iter().map(|(fact, _)| fact).filter(|fact| keep(fact));
+        let facts = self
+            .facts
+            .iter()
+            .map(|(fact, _)| fact)
+            .filter(|fact| keep(fact));
         let mut facts: Vec<Pair> = facts.map(|fact| fact.words()).collect();
         facts.sort_unstable();
         facts.dedup();

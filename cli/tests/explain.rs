@@ -64,7 +64,7 @@ fn the_patients_of_the_report() {
     let patients = file("patient.bik", PATIENT);
     let held = "\
 HELD  every object of QueryPatient is in ViewPatient
-  from 4 of 10 axioms, each needed here; there is another way as well
+  from 4 of 10 axioms, of which none can be left out; others would do as well
     patient.bik:3:19  Patient isA Person
     patient.bik:13:5  Person types name: String
     patient.bik:13:5  Person needs name
@@ -75,9 +75,9 @@ HELD  every object of QueryPatient is in ViewPatient
     let open = "\
 OPEN  some object of ViewPatient need not be in QueryPatient
 State counterexample      -- legal; patient0 is in ViewPatient and not in QueryPatient
-  patient0 in Patient, Person with consults: person2; suffers: disease3; name: string1
+  patient0 in Patient, Person with consults: doctor2; suffers: disease3; name: string1
   string1 in String
-  person2 in Person, Doctor with name: string4; skilled_in: disease3
+  doctor2 in Person, Doctor with name: string4; skilled_in: disease3
   disease3 in Disease, Topic
   string4 in String
 end counterexample
@@ -85,11 +85,11 @@ patient0 fails in QueryPatient:
   NO   patient.bik:38:29  isA Male
   yes  patient.bik:38:35  isA Patient
   NO   patient.bik:43:5   (consults: Female) = suffers.(specialist: Doctor)
-       patient.bik:40:9   (consults: Female)  consults of patient0: person2, not in Female";
+       patient.bik:40:9   (consults: Female)  consults of patient0: doctor2, not in Female";
     let answer = asked(&patients, "ViewPatient", "QueryPatient");
     assert_eq!(answer.text(), open);
     let drawn = told(&answer.drawing().expect("a drawing"));
-    assert!(drawn.contains("person2 Person Doctor lacks Female\n"));
+    assert!(drawn.contains("doctor2 Person Doctor lacks Female\n"));
     assert!(drawn.contains("0 -consults-> 2 in query in view\n"));
 }
 

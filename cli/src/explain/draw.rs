@@ -28,7 +28,9 @@ pub fn held(explanation: &Explanation) -> Result<Drawing, Fault> {
         file, query, view, ..
     } = explanation;
     let name = &query.name.text;
-    let Some(question) = spare::is_empty(file, &query.concept) else {
+    let question = spare::is_empty_beside(file, &query.concept, &view.concept)
+        .or_else(|| spare::is_empty(file, &query.concept));
+    let Some(question) = question else {
         return Err(Fault::of(format!(
             "there is nothing to draw: a state with an object of `{name}` is found by a further class or attribute, and the schema has as many as there may be"
         )));

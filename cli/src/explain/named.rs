@@ -54,21 +54,29 @@ fn free_name(file: &File) -> String {
     name
 }
 
+/// The object is called after a class of which it is in no subclass. Of several the one
+/// with the fewest subclasses says most, and of these the first declared.
 fn object_name(file: &File, supers: &Superclasses, facts: &Facts, object: Object) -> String {
     let classes = classes(facts, object);
-    let special = classes.iter().find(|&&class| {
+    let is_special = |&&class: &&Class| {
         let is_below = |&other: &Class| supers.is_strictly_below(other, class);
         !classes.iter().any(is_below)
-    });
-    let base = special.map_or_else(
+    };
+    let special = classes.iter().filter(is_special);
+    let special = special.min_by_key(|&&class| supers.below(class));
+    let mut base = special.map_or_else(
         || "object".to_string(),
         |&class| lowered(file.names.class(class)),
     );
-    let between = match base.ends_with(|last: char| last.is_ascii_digit()) {
-        true => "_",
-        false => "",
-    };
-    format!("{base}{between}{}", object.0)
+    // The number at the end tells objects apart, and no object has a class's name.
+    let is_class = |name: &String| file.names.classes.iter().any(|class| class.text == *name);
+    if base.ends_with(|last: char| last.is_ascii_digit()) {
+        base.push('_');
+    }
+    while is_class(&format!("{base}{}", object.0)) {
+        base.push('_');
+    }
+    format!("{base}{}", object.0)
 }
 
 /// The classes of the object, in the order of their declaration.
@@ -121,13 +129,20 @@ impl Superclasses {
         for middle in 0..count {
             for class in 0..count {
                 if below[class][middle] {
-                    for superclass in 0..count {
-                        below[class][superclass] |= below[middle][superclass];
+                    let above = below[middle].clone();
+                    for (superclass, is_above) in below[class].iter_mut().zip(above) {
+                        *superclass |= is_above;
                     }
                 }
             }
         }
         Superclasses(below)
+    }
+
+    /// How many classes are below this one.
+    fn below(&self, Class(superclass): Class) -> usize {
+        let of = |row: &&Vec<bool>| row[usize::from(superclass)];
+        self.0.iter().filter(of).count()
     }
 
     /// Classes that include each other in a circle are not below one another.

@@ -10,6 +10,20 @@ use bikuvoa::{Attribute, Class};
 /// Asks whether the query is empty, by a class that the file does not declare, or else
 /// by having a value of a further attribute; nothing if there can be neither.
 pub fn is_empty(file: &File, query: &Concept) -> Option<Question> {
+    asked(file, query, unplaced)
+}
+
+/// The same, by being in the view as well. No more objects are in both than in the
+/// one, and a state that shows an object of the query then has objects along the
+/// view's paths. Nothing if the two do not fit into a view.
+pub fn is_empty_beside(file: &File, query: &Concept, view: &Concept) -> Option<Question> {
+    let both = |spare| unplaced(Node::All(vec![view.clone(), unplaced(spare)]));
+    let question = asked(file, query, both)?;
+    bikuvoa::check_view(&question.schema, &question.view).ok()?;
+    Some(question)
+}
+
+fn asked(file: &File, query: &Concept, view: impl FnOnce(Node) -> Concept) -> Option<Question> {
     let mut signature = file.names.signature();
     let node = if signature.classes < MAX_CLASSES {
         signature.classes += 1;
@@ -28,7 +42,7 @@ pub fn is_empty(file: &File, query: &Concept) -> Option<Question> {
     Some(Question {
         schema: layout::schema(signature, &axioms),
         query: query.words(),
-        view: unplaced(node).words(),
+        view: view(node).words(),
     })
 }
 

@@ -117,7 +117,7 @@ fn axioms(explanation: &Explanation, held: &Held) -> Vec<String> {
         (1, true) => format!("  from 1 of {all} axioms; without this one it is OPEN"),
         (_, true) => format!("  from {some} of {all} axioms; without any one of them it is OPEN"),
         (_, false) => {
-            format!("  from {some} of {all} axioms, each needed here; there is another way as well")
+            format!("  from {some} of {all} axioms, of which none can be left out; others would do as well")
         }
     };
     let places = width(needed.iter().map(|(place, _)| place.as_str()));

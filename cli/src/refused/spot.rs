@@ -120,7 +120,7 @@ impl Record<'_> {
     }
 
     /// The size that is refused also where all others are 0, or else the count of
-    /// the entries.
+    /// the entries, which is right in every record that is asked about.
     fn size(&self, refusal: Refusal) -> usize {
         let few: &[Pair] = match self.sort {
             Sort::Concept { .. } => &[token::EVERYTHING],
@@ -128,9 +128,7 @@ impl Record<'_> {
         };
         let is_refused = |(place, &size): &(usize, &u16)| {
             let mut alone = vec![0; self.layout.sizes];
-            if *place != self.layout.counter {
-                alone[*place] = size;
-            }
+            alone[*place] = size;
             self.asked(&alone, few) == Some(refusal)
         };
         let mut refused = self.sizes.iter().enumerate().filter(is_refused);

@@ -71,6 +71,11 @@ impl<'a> Told<'a> {
                 continue;
             };
             let (text, span) = (name.text.as_str(), name.span);
+            // Lines have no sign between them, so `o im C` would be three objects.
+            if let Some(What::Class(_)) = self.resolver.scope.framed(text) {
+                let message = format!("`{text}` is a class, and no object has a class's name; is a word before it misspelt?");
+                return Err(self.resolver.fault(span, message));
+            }
             let number = match u16::try_from(names.len()) {
                 Ok(number) if number < MAX_OBJECTS => number,
                 _ => {

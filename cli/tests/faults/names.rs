@@ -139,6 +139,13 @@ fn names_twice() {
         1,
         "the object `x` has a line of its own already, line 2",
     );
+    let text = "Class A end\nState S\nx im A end";
+    at(
+        text,
+        (3, 6),
+        1,
+        "`A` is a class, and no object has a class's name; is a word before it misspelt?",
+    );
     let text = "Constant c State S x y\nc is x\nc is y end";
     at(text, (3, 1), 1, "`c` is an object already, in line 2");
     let text = "QueryClass Q isA ?m end State S for Q x y\n?m is x\n?0 is y end";

@@ -1,6 +1,7 @@
 //! Queries and views.
 
 use super::{file_of, query, words, DECLARED};
+use bik::model::Node;
 use bikuvoa::layout::token::{backward, class, constant, forward, mark};
 use bikuvoa::layout::token::{BOTH, COMMON, EMPTY, EVERYTHING, REACHED};
 use bikuvoa::layout::{self, Pair};
@@ -28,6 +29,11 @@ fn members() {
         &[class(0), class(1), constant(0), BOTH, BOTH],
     );
     is_read_as("isA [], [isA [isA B]]", &[EVERYTHING, class(1), BOTH]);
+    // Brackets side by side do not nest.
+    let views = (0..65).map(|i| format!("View V{i} isA [] end "));
+    assert_eq!(file_of(&views.collect::<String>()).queries.len(), 65);
+    let nested = format!("{}isA A{}", "isA [".repeat(64), "]".repeat(64));
+    is_read_as(&nested, &[class(0)]);
 }
 
 #[test]
@@ -152,4 +158,26 @@ fn parts_and_their_places() {
     let file = file_of(&format!("{DECLARED} QueryClass Q isA A end View Empty end"));
     assert_eq!(file.source.at(query(&file, "Q").concept.span), "A");
     assert_eq!(file.source.at(query(&file, "Empty").concept.span), "Empty");
+}
+
+#[test]
+fn steps_and_their_places() {
+    let file = file_of(&format!(
+        "{DECLARED} View V with derived l: (p: A & B).r^ end"
+    ));
+    let concept = &query(&file, "V").concept;
+    let Node::Reached(path) = &concept.node else {
+        panic!("{concept:?}");
+    };
+    let at = |span| file.source.at(span);
+    assert_eq!(
+        (at(concept.span), at(path.span)),
+        ("(p: A & B).r^", "(p: A & B).r^")
+    );
+    let places: Vec<_> = path
+        .steps
+        .iter()
+        .map(|step| (at(step.span), at(step.landing.span)))
+        .collect();
+    assert_eq!(places, [("(p: A & B)", "A & B"), ("r^", "r^")]);
 }

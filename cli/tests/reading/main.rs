@@ -109,6 +109,12 @@ fn states() {
         state(&file, "Numbered").words(),
         layout::state(1, &numbered)
     );
+    let loose_first = "Constant c loose Constant d State S x c is x d is x end";
+    let shared = [fact::name(0, 0), fact::name(1, 0)];
+    assert_eq!(
+        state(&file_of(loose_first), "S").words(),
+        layout::state(1, &shared)
+    );
     let few = [fact::name(0, 1), fact::name(1, 0)];
     assert_eq!(state(&file, "Few").words(), layout::state(2, &few));
 }
@@ -119,8 +125,8 @@ fn layout_is_free() {
     assert_eq!(file_of("-- nothing").schema(), [0, 0, 0, 0, 0]);
     let text = "\u{feff}Class Über_1--comment end\r\nisA Über_1 end\tÜber_1 Constant d loose";
     assert_eq!(file_of(text).schema(), [1, 0, 1, 1, 1, 256, 0]);
-    // Each sort of names has a space of its own.
-    let text = "Class n end Attribute n end Constant n State s n in n with n: n n is n end
-        QueryClass Q with derived n: (n: n & {n}) where n = this end";
+    // Each sort of names has a space of its own; only objects are not called as classes.
+    let text = "Class C end Attribute n end Constant n State s n in C with n: n n is n end
+        QueryClass Q with derived n: (n: C & {n}) where n = this end";
     assert_eq!(file_of(text).names.constant(bikuvoa::Constant(0)), "n");
 }
