@@ -6,10 +6,10 @@
 pub struct Drawing {
     /// One line, such as `OPEN  some object of Recorded need not be in Rowers`.
     pub title: String,
-    /// The first is the object that the answer is about.
+    /// The first is the object that the answer is about; none if nothing is drawn.
     pub nodes: Vec<Node>,
     pub edges: Vec<Edge>,
-    /// What is not drawn, if anything: one line.
+    /// What is not drawn and why, if anything: one line.
     pub note: Option<String>,
 }
 

@@ -163,9 +163,9 @@ impl Explanation {
 
     /// The counterexample, or for a query that is held a smallest state with an object
     /// of it.
-    pub fn drawing(&self) -> Result<Drawing, Fault> {
+    pub fn drawing(&self, progress: &mut dyn FnMut(&str)) -> Result<Drawing, Fault> {
         match &self.answer {
-            Answer::Held(_) => draw::held(self),
+            Answer::Held(_) => draw::held(self, progress),
             Answer::Open(open) => Ok(draw::open(self, open)),
         }
     }

@@ -2,7 +2,7 @@
 
 mod explained;
 
-use bik::drawing::Drawing;
+use explained::drawn::told;
 use explained::value::Value;
 use explained::{asked, file};
 
@@ -26,6 +26,19 @@ HELD  every object of Rowers is in Recorded
   of Rowers needed: isA Rower; not needed: (attends: Session)
   The other way OPEN: filter the list by Rowers.";
     assert_eq!(answer.text(), text);
+    // A state of its own: the view's session need not be the one that is attended.
+    let text = "\
+rower0 Person Rower
+session1 Session
+strap2 Strap
+beat3 Beat
+session4 Session
+0 -wears-> 2 in view
+2 -records-> 3 in view
+3 -during-> 4 in view
+0 -attends-> 1 in query
+";
+    assert_eq!(told(&answer.drawing(&mut |_| {}).expect("a drawing")), text);
 }
 
 #[test]
@@ -44,7 +57,7 @@ person0 fails in Rowers:
   NO   rowing.bik:15:23  isA Rower
   NO   rowing.bik:16:11  (attends: Session)  person0 has no value of attends";
     assert_eq!(answer.text(), text);
-    let drawn = answer.drawing().expect("a drawing");
+    let drawn = answer.drawing(&mut |_| {}).expect("a drawing");
     let text = "\
 person0 Person lacks Rower
 strap1 Strap
@@ -88,7 +101,7 @@ patient0 fails in QueryPatient:
        patient.bik:40:9   (consults: Female)  consults of patient0: doctor2, not in Female";
     let answer = asked(&patients, "ViewPatient", "QueryPatient");
     assert_eq!(answer.text(), open);
-    let drawn = told(&answer.drawing().expect("a drawing"));
+    let drawn = told(&answer.drawing(&mut |_| {}).expect("a drawing"));
     assert!(drawn.contains("doctor2 Person Doctor lacks Female\n"));
     assert!(drawn.contains("0 -consults-> 2 in query in view\n"));
 }
@@ -122,176 +135,11 @@ missing Person
 2 -stroked_by-> 3 in query
 4 -attends-> 2 missing
 ";
-    assert_eq!(told(&answer.drawing().expect("a drawing")), text);
+    assert_eq!(told(&answer.drawing(&mut |_| {}).expect("a drawing")), text);
     let held = asked(&club, "StrokeBeats", "RowerBeats").text();
     let last = "The other way cannot be asked, since StrokeBeats has marks and a view has none: filter the list by StrokeBeats.";
     assert!(held.ends_with(last));
     assert!(held.contains("from 1 of 11 axioms; without this one it is OPEN\n"));
-}
-
-/// A drawing in lines.
-fn told(drawing: &Drawing) -> String {
-    let mut text = String::new();
-    for node in &drawing.nodes {
-        text += if node.missing { "missing " } else { "" };
-        text += &node.name;
-        for word in node.classes.iter().chain(&node.called) {
-            text += &format!(" {word}");
-        }
-        for lack in &node.lacks {
-            text += &format!(" lacks {lack}");
-        }
-        text += "\n";
-    }
-    for edge in &drawing.edges {
-        text += &format!("{} -{}-> {}", edge.from, edge.attribute, edge.to);
-        text += if edge.in_query { " in query" } else { "" };
-        text += if edge.in_view { " in view" } else { "" };
-        text += if edge.missing { " missing" } else { "" };
-        text += "\n";
-    }
-    text
-}
-
-const NAMES: &str = "\
-Class Upper end Class Unit2 isA Upper end
-Attribute part end Attribute owns with inverse: owner end
-Constant left Constant right
-QueryClass Unit isA Unit2 with derived (part: Upper) end
-QueryClass Part with derived part end
-View Left isA Upper, {left} end
-View Asked
-";
-
-/// What is said of the object of `Unit`, which is called `unit2_0`, has `upper1` as its
-/// part and is neither of the constants, and a view with this body; and the drawing.
-fn unit_fails(body: &str) -> (String, String) {
-    let text = format!("{NAMES}{body} end");
-    let answer = asked(&file("n", &text), "Unit", "Asked");
-    let said = answer.text();
-    let (_, fails) = said
-        .split_once("unit2_0 fails in Asked:\n")
-        .expect("it fails");
-    (
-        fails.to_string(),
-        told(&answer.drawing().expect("a drawing")),
-    )
-}
-
-/// That so much is said, line by line, and that the drawing has this line.
-fn assert_fails(body: &str, lines: &[&str], drawn: &str) {
-    let (said, drawing) = unit_fails(body);
-    assert_eq!(said.lines().collect::<Vec<_>>(), lines);
-    assert!(drawing.lines().any(|line| line == drawn), "{drawing}");
-}
-
-#[test]
-fn what_fails_is_told() {
-    let not_left = ["  NO   n:8:5  isA {left}  {left} is object2, not unit2_0"];
-    assert_fails("isA {left}", &not_left, "unit2_0 Upper Unit2 lacks {left}");
-    let no_part = ["  NO   n:8:14  part^  unit2_0 is no value of part"];
-    assert_fails("with derived part^", &no_part, "4 -part-> 0 missing");
-    let no_owner = ["  NO   n:8:14  (owner: Upper)  unit2_0 has no value of owner"];
-    assert_fails("with derived (owner: Upper)", &no_owner, "missing Upper");
-    assert_fails(
-        "with derived (owner: Upper)",
-        &no_owner,
-        "4 -owns-> 0 missing",
-    );
-    // A constant has an object already.
-    let no_left = ["  NO   n:8:14  (owns: {left})  unit2_0 has no value of owns"];
-    assert_fails(
-        "with derived (owns: {left})",
-        &no_left,
-        "0 -owns-> 2 missing",
-    );
-}
-
-#[test]
-fn the_step_that_fails_is_told() {
-    let second = [
-        "  NO   n:8:14  part.part",
-        "       n:8:19  part  upper1 has no value of part",
-    ];
-    assert_fails("with derived part.part", &second, "1 -part-> 4 missing");
-    assert_fails(
-        "with derived part.part",
-        &second,
-        "0 -part-> 1 in query in view",
-    );
-    let landing = ["  NO   n:8:14  (part: Unit2).part  part of unit2_0: upper1, not in Unit2"];
-    assert_fails(
-        "with derived (part: Unit2).part",
-        &landing,
-        "upper1 Upper lacks Unit2",
-    );
-    let nested = [
-        "  NO   n:8:14  (part: Unit2 & [with derived owner])  part of unit2_0: upper1, not in Unit2 & [owner]",
-        "       n:8:21  Unit2                                 upper1 is not in Unit2",
-        "       n:8:43  owner                                 upper1 has no value of owner",
-    ];
-    let body = "with derived (part: Unit2 & [with derived owner])";
-    assert_fails(body, &nested, "4 -owns-> 1 missing");
-    assert_fails(body, &nested, "upper1 Upper lacks Unit2");
-}
-
-#[test]
-fn equations_fail_in_a_path_or_at_their_ends() {
-    let apart = ["  NO   n:8:28  part = this  one side leads to upper1, the other to unit2_0"];
-    let body = "with derived l: part where l = this";
-    assert_fails(body, &apart, "upper1 Upper lacks = unit2_0");
-    let turned = ["  NO   n:8:28  this = part  one side leads to unit2_0, the other to upper1"];
-    let body = "with derived l: part where this = l";
-    assert_fails(body, &turned, "upper1 Upper lacks = unit2_0");
-    let path = [
-        "  NO   n:8:41  part = owns.part",
-        "       n:8:25  owns  unit2_0 has no value of owns",
-    ];
-    let body = "with derived l: part m: owns.part where l = m";
-    assert_fails(body, &path, "0 -owns-> 4 missing");
-}
-
-#[test]
-fn a_view_that_is_named_is_told_by_its_name() {
-    let named = [
-        "  yes  n:8:5   isA Unit2",
-        "  NO   n:8:12  isA Left  {left} is object2, not unit2_0",
-        "  NO   n:8:30  (part: Upper & {left})  part of unit2_0: upper1, not in Left",
-        "       n:8:37  {left}                  {left} is object2, not upper1",
-    ];
-    let drawn = "upper1 Upper lacks {left}";
-    let (said, drawing) = unit_fails("isA Unit2, Left with derived (part: Left)");
-    let squeezed = |line: &str| line.split_whitespace().collect::<Vec<_>>().join(" ");
-    let said: Vec<String> = said.lines().map(squeezed).collect();
-    assert_eq!(said, named.map(squeezed));
-    assert!(drawing.contains(drawn), "{drawing}");
-}
-
-#[test]
-fn objects_are_named_after_their_classes() {
-    let text = NAMES.replace("Asked", "counterexample") + "isA Unit end";
-    let said = asked(&file("n", &text), "Part", "counterexample").text();
-    let state = "\
-State counterexample2      -- legal; object0 is in Part and not in counterexample
-  object0 with part: object1
-  object1
-";
-    assert!(said.contains(state), "{said}");
-    let said = asked(
-        &file("n", &(NAMES.to_string() + "isA {left} end")),
-        "Unit",
-        "Asked",
-    )
-    .text();
-    let state = "  unit2_0 in Upper, Unit2 with part: upper1\n  upper1 in Upper\n";
-    assert!(said.contains(state), "{said}");
-    // The first letter of this name is two in lower case, of which one is no letter.
-    let text = "Class \u{130} end Class Ärzte end View Both isA \u{130}, Ärzte end View None isA \u{130} with derived this end Class Z isA Ärzte end View C isA Z end Attribute a end View D isA Both with derived a end";
-    let letters = file("n", text);
-    let said = asked(&letters, "None", "C").text();
-    assert!(said.contains("\u{130}0 in \u{130}\n"), "{said}");
-    let said = asked(&letters, "C", "D").text();
-    assert!(said.contains("z0 in Ärzte, Z\n"), "{said}");
 }
 
 #[test]
@@ -306,10 +154,9 @@ HELD  every object of Q is in V
   of Q all is needed: isA {one}; isA {two}
   The other way OPEN: filter the list by Q.";
     assert_eq!(answer.text(), said);
-    let fault = answer.drawing().expect_err("nothing to draw").to_string();
     assert_eq!(
-        fault,
-        "there is nothing to draw: `Q` is empty in every legal state"
+        undrawn(&answer),
+        "There is nothing to draw: no legal state has an object of Q."
     );
     let json = Value::read(&answer.json()).expect("JSON");
     assert!(json.get("empty").truth() && json.get("filter").truth());
@@ -320,7 +167,14 @@ fn without_room_for_a_further_class_or_attribute_emptiness_is_not_told() {
     let classes: String = (0..24).map(|n| format!("Class C{n} end ")).collect();
     let query = "QueryClass Q isA C0, C1 end View V isA C1 end";
     let answer = asked(&file("n", &format!("{classes}{query}")), "Q", "V");
-    assert_eq!(answer.drawing().expect("by an attribute").nodes.len(), 1);
+    assert_eq!(
+        answer
+            .drawing(&mut |_| {})
+            .expect("by an attribute")
+            .nodes
+            .len(),
+        1
+    );
     let attributes: String = (0..8).map(|n| format!("Attribute a{n} end ")).collect();
     let answer = asked(
         &file("n", &format!("{classes}{attributes}{query}")),
@@ -330,8 +184,17 @@ fn without_room_for_a_further_class_or_attribute_emptiness_is_not_told() {
     let json = Value::read(&answer.json()).expect("JSON");
     assert_eq!(json.get("empty"), &Value::Null);
     assert!(!answer.text().contains("empty"));
-    let fault = answer.drawing().expect_err("no state is found").to_string();
-    assert!(fault.starts_with("there is nothing to draw: "), "{fault}");
+    let why = undrawn(&answer);
+    assert!(why.starts_with("There is nothing to draw: "), "{why}");
+}
+
+/// Why nothing is drawn.
+fn undrawn(answer: &bik::explain::Explanation) -> String {
+    let drawing = answer.drawing(&mut |_| {}).expect("a drawing");
+    assert!(drawing.nodes.is_empty());
+    let picture = bik::picture::svg(&drawing);
+    assert!(picture.contains("There is nothing to draw"));
+    drawing.note.expect("a note")
 }
 
 #[test]

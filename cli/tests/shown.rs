@@ -13,7 +13,7 @@ fn drawn(example: &str, query: &str, view: &str) -> String {
     let file = read::read(Source { name, text }).expect("a file without faults");
     let asked = |name| file.query(name).expect("a query or view of the file");
     let answer = explain::explain(&file, asked(query), asked(view), &mut |_| {});
-    let drawing = answer.expect("an explanation").drawing();
+    let drawing = answer.expect("an explanation").drawing(&mut |_| {});
     picture::svg(&drawing.expect("a drawing"))
 }
 

@@ -32,9 +32,11 @@ fn run(arguments: &Arguments) -> Result<Answer, Fault> {
     let view = lookup::concept(&file, &arguments.name(2))?;
     let explanation = {
         let mut progress = Progress::new();
-        explain(&file, &query, &view, &mut |text| progress.show(text))?
+        let mut show = |text: &str| progress.show(text);
+        let explanation = explain(&file, &query, &view, &mut show)?;
+        draw(arguments, &explanation, &mut show)?;
+        explanation
     };
-    draw(arguments, &explanation)?;
     let text = match arguments.has("--json") {
         true => explanation.json(),
         false => explanation.text(),
@@ -44,12 +46,16 @@ fn run(arguments: &Arguments) -> Result<Answer, Fault> {
 }
 
 /// The files come before the answer, which is then said only if they are there.
-fn draw(arguments: &Arguments, explanation: &Explanation) -> Result<(), Fault> {
+fn draw(
+    arguments: &Arguments,
+    explanation: &Explanation,
+    progress: &mut dyn FnMut(&str),
+) -> Result<(), Fault> {
     let (svg, dot) = (arguments.value("--svg"), arguments.value("--dot"));
     if svg.is_none() && dot.is_none() {
         return Ok(());
     }
-    let drawing = explanation.drawing()?;
+    let drawing = explanation.drawing(progress)?;
     if let Some(path) = svg {
         output::save(path, &picture::svg(&drawing))?;
     }

@@ -22,31 +22,35 @@ pub fn open(explanation: &Explanation, open: &Open) -> Drawing {
     Sketch::of(explanation, &open.instance, in_view.collect()).drawn(&misses.collect::<Vec<_>>())
 }
 
-/// A small state with an object of the query, which is then in the view as well.
-pub fn held(explanation: &Explanation) -> Result<Drawing, Fault> {
+/// A small state with an object of the query, which is then in the view as well. If
+/// there is none, or it cannot be found, the drawing says so.
+pub fn held(explanation: &Explanation, progress: &mut dyn FnMut(&str)) -> Result<Drawing, Fault> {
     let Explanation {
         file, query, view, ..
     } = explanation;
-    let name = &query.name.text;
     let question = spare::is_empty_beside(file, &query.concept, &view.concept)
         .or_else(|| spare::is_empty(file, &query.concept));
     let Some(question) = question else {
-        return Err(Fault::of(format!(
-            "there is nothing to draw: a state with an object of `{name}` is found by a further class or attribute, and the schema has as many as there may be"
-        )));
+        let why = "a state is found by a further class or attribute, and there may be none";
+        return Ok(nothing(explanation, why));
     };
-    let found = match question.decide() {
-        Decision::Open { state, object } => (state, object),
-        _ => {
-            return Err(Fault::of(format!(
-                "there is nothing to draw: `{name}` is empty in every legal state"
-            )))
-        }
+    let Decision::Open { state, object } = question.decide() else {
+        let why = format!("no legal state has an object of {}", query.name.text);
+        return Ok(nothing(explanation, &why));
     };
-    let instance = Instance::of(file, query, &question, found, &mut |_| {})?;
+    let instance = Instance::of(file, query, &question, (state, object), progress)?;
     let in_view = Witness::of(&instance.facts).pairs(&view.concept, OBJECT);
     let sketch = Sketch::of(explanation, &instance, in_view.unwrap_or_default());
     Ok(sketch.drawn(&[]))
+}
+
+fn nothing(explanation: &Explanation, why: &str) -> Drawing {
+    Drawing {
+        title: explanation.title(),
+        nodes: Vec::new(),
+        edges: Vec::new(),
+        note: Some(format!("There is nothing to draw: {why}.")),
+    }
 }
 
 /// What a drawing is made from.

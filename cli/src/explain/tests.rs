@@ -195,7 +195,7 @@ fn assert_shrunk(axioms: &[Pair], objects: u16, facts: usize, calls: usize) {
 
 #[test]
 fn the_largest_state_is_shrunk_to_one_object() {
-    assert_shrunk(&[], 1, 1, 30);
+    assert_shrunk(&[], 1, 1, 60);
 }
 
 /// Each object needs the next, which is in all classes as soon as it is in one.

@@ -98,3 +98,27 @@ fn called(asked: &File, query: &QueryClass, name: &str, object: Object) -> Fact 
         object,
     }
 }
+
+/// A drawing in lines.
+pub fn told(drawing: &Drawing) -> String {
+    let mut text = String::new();
+    for node in &drawing.nodes {
+        text += if node.missing { "missing " } else { "" };
+        text += &node.name;
+        for word in node.classes.iter().chain(&node.called) {
+            text += &format!(" {word}");
+        }
+        for lack in &node.lacks {
+            text += &format!(" lacks {lack}");
+        }
+        text += "\n";
+    }
+    for edge in &drawing.edges {
+        text += &format!("{} -{}-> {}", edge.from, edge.attribute, edge.to);
+        text += if edge.in_query { " in query" } else { "" };
+        text += if edge.in_view { " in view" } else { "" };
+        text += if edge.missing { " missing" } else { "" };
+        text += "\n";
+    }
+    text
+}
