@@ -2,7 +2,7 @@
 
 use super::{value::Value, words};
 use bik::explain::Explanation;
-use bik::model::{Concept, File, Node};
+use bik::model::{Concept, File};
 use bikuvoa::layout::{self, token, Pair, Signature, MAX_CLASSES};
 
 /// That the axioms and parts that are told are enough and that none of them can be left
@@ -12,7 +12,7 @@ pub fn check(asked: &File, answer: &Explanation) {
     let query = &asked.query("query").expect("a query").concept;
     let view = words(asked, "view");
     let holds = |parts: &[bool], axioms: &[bool]| {
-        let query = only(query, parts).words();
+        let query = only(query, parts);
         bikuvoa::holds(&schema(asked, axioms), &query, &view).expect("accepted")
     };
     let parts = json.get("parts").list().iter();
@@ -87,17 +87,17 @@ fn with_axioms(asked: &File, signature: Signature, kept: &[bool]) -> Vec<u16> {
     layout::schema(signature, &axioms.collect::<Vec<Pair>>())
 }
 
-fn only(concept: &Concept, kept: &[bool]) -> Concept {
-    let mut parts: Vec<Concept> = places(kept)
-        .map(|place| concept.parts()[place].clone())
-        .collect();
-    let node = match parts.len() {
-        0 => Node::Everything,
-        1 => return parts.remove(0),
-        _ => Node::All(parts),
-    };
-    Concept {
-        span: concept.span,
-        node,
+/// The record of these parts, or of everything.
+fn only(concept: &Concept, kept: &[bool]) -> Vec<u16> {
+    let mut tokens = Vec::new();
+    for place in places(kept) {
+        let is_further = !tokens.is_empty();
+        let part = concept.parts()[place].tokens();
+        tokens.extend(part.iter().map(|token| token.words()));
+        tokens.extend(is_further.then_some(token::BOTH));
     }
+    if tokens.is_empty() {
+        tokens.push(token::EVERYTHING);
+    }
+    layout::concept(&tokens)
 }

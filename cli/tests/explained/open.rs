@@ -3,7 +3,7 @@
 use super::{file, state_of, value::Value, words};
 use bik::explain::Explanation;
 use bik::model::File;
-use bikuvoa::layout::{self, Pair};
+use bikuvoa::layout::{self, fact, Pair};
 use bikuvoa::{Fact, Object};
 
 /// That the state that is shown, read again, is a counterexample of which nothing can
@@ -69,35 +69,19 @@ pub fn record(objects: u16, facts: &[Fact]) -> Vec<u16> {
     layout::state(objects, &facts)
 }
 
-/// The state without that object.
+/// The state without that object, and without what is said of it: the others' numbers
+/// in the words of the facts close up.
 fn without(objects: u16, facts: &[Fact], left_out: u16) -> Vec<u16> {
-    let number = |Object(number): Object| {
-        (number != left_out).then(|| Object(number - u16::from(number > left_out)))
-    };
-    let renumbered = facts.iter().filter_map(|&fact| {
-        Some(match fact {
-            Fact::Member { class, object } => Fact::Member {
-                class,
-                object: number(object)?,
-            },
-            Fact::Pair {
-                attribute,
-                first,
-                second,
-            } => Fact::Pair {
-                attribute,
-                first: number(first)?,
-                second: number(second)?,
-            },
-            Fact::Name { constant, object } => Fact::Name {
-                constant,
-                object: number(object)?,
-            },
-            Fact::Choice { mark, object } => Fact::Choice {
-                mark,
-                object: number(object)?,
-            },
-        })
+    let closed = |number: u16| number - u16::from(number > left_out);
+    let closed_up = facts.iter().filter_map(|fact| {
+        let (left, right) = fact.words();
+        let is_pair = matches!(fact, Fact::Pair { .. });
+        let object = fact::object((left, right));
+        let is_of = object == left_out || (is_pair && right == left_out);
+        let right = if is_pair { closed(right) } else { right };
+        (!is_of).then_some((left - object + closed(object), right))
     });
-    record(objects - 1, &renumbered.collect::<Vec<_>>())
+    let mut facts: Vec<Pair> = closed_up.collect();
+    facts.sort_unstable();
+    layout::state(objects - 1, &facts)
 }
