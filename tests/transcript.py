@@ -1,8 +1,8 @@
 #!/usr/bin/env python3
-"""Holds the transcripts of README.md to what its commands print. In an indented block a line that begins with `$ ` is a command;
+"""Holds the transcripts of README.md and docs/TEXT.md to what their commands print. In an indented block a line that begins with `$ ` is a command;
 the lines up to the next one are what it prints on standard output and standard error, and a last line such as `(status 1)` is
-its status where that is not 0. The commands run in a folder of their own that has `example/`, with the built `bik` on the PATH.
-Another page may be given as an argument.
+its status where that is not 0. The commands of a page run in a folder of their own that has `example/`, with the built `bik`
+on the PATH. Other pages may be given as arguments.
 """
 import difflib
 import os
@@ -13,6 +13,7 @@ import sys
 import tempfile
 
 ROOT = pathlib.Path(__file__).resolve().parent.parent
+PAGES = [ROOT / "README.md", ROOT / "docs" / "TEXT.md"]
 PROGRAMS = ROOT / "cli" / "target" / "release"
 INDENT, PROMPT = "    ", "$ "
 SECONDS = 60
@@ -55,9 +56,8 @@ def without_end(lines):
     return lines
 
 
-def main():
-    page = pathlib.Path(sys.argv[1]) if len(sys.argv) > 1 else ROOT / "README.md"
-    assert (PROGRAMS / "bik").is_file(), f"{PROGRAMS / 'bik'} has not been built"
+def differing(page):
+    """How many commands the page has, and how many of them print something else than it shows."""
     found = transcripts(page.read_text())
     assert found, f"{page} has no transcript"
     wrong = 0
@@ -68,8 +68,14 @@ def main():
             if shown != lines:
                 wrong += 1
                 print(f"{page.name}: {PROMPT}{command}", *difflib.unified_diff(shown, lines, "shown", "printed", lineterm=""), sep="\n")
-    print(f"transcript: {len(found)} commands, {wrong} of them print something else")
-    return 1 if wrong else 0
+    print(f"transcript: {page.name}, {len(found)} commands, {wrong} of them print something else")
+    return wrong
+
+
+def main():
+    assert (PROGRAMS / "bik").is_file(), f"{PROGRAMS / 'bik'} has not been built"
+    pages = [pathlib.Path(page) for page in sys.argv[1:]] or PAGES
+    return 1 if sum(map(differing, pages)) else 0
 
 
 if __name__ == "__main__":

@@ -153,7 +153,7 @@ impl Explanation {
         }
     }
 
-    /// The same as JSON, see `explain/json.rs` for its keys.
+    /// The same as JSON; docs/TEXT.md has its keys.
     pub fn json(&self) -> String {
         match &self.answer {
             Answer::Held(held) => json::held(self, held),

@@ -5,6 +5,7 @@ mod explained;
 use explained::drawn::told;
 use explained::value::Value;
 use explained::{asked, file};
+use std::collections::BTreeSet;
 
 const ROWING: &str = include_str!("../../example/rowing.bik");
 const PATIENT: &str = include_str!("../../example/patient.bik");
@@ -224,6 +225,21 @@ fn a_query_of_many_steps_is_refused_as_a_view() {
     );
     let fault = bik::explain::explain(&club, query, view, &mut |_| {}).expect_err("too many steps");
     assert!(fault.to_string().starts_with("n:1:28: "), "{fault}");
+}
+
+#[test]
+fn the_page_has_the_keys_of_the_json_and_no_others() {
+    let page = include_str!("../../docs/TEXT.md");
+    let (_, keys) = page.split_once("| key | of | what |").expect("the table");
+    let (keys, _) = keys.split_once("## Faults").expect("what follows it");
+    let quoted = keys.split('`').skip(1).step_by(2);
+    let told: BTreeSet<&str> = quoted.filter(|text| !text.starts_with('"')).collect();
+    let club = file("rowing.bik", ROWING);
+    let answers = [("Rowers", "Recorded"), ("Recorded", "Rowers")];
+    let answers = answers.map(|(query, view)| asked(&club, query, view).json());
+    let answers = answers.map(|json| Value::read(&json).expect("JSON"));
+    let keys: BTreeSet<&str> = answers.iter().flat_map(Value::keys).collect();
+    assert_eq!(told, keys);
 }
 
 #[test]

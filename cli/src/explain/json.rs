@@ -1,20 +1,4 @@
-//! The explanation as JSON: one object, with these keys.
-//!
-//! - always: `answer` ("HELD" or "OPEN"), `query`, `view`
-//! - of OPEN: `object`, the name of the object that is in the query and not in the view;
-//!   `state` with its `name`, its `objects` (each with `name`, `classes`, `constants`,
-//!   `marks`), its `pairs` (each with `attribute`, `first`, `second`) and its `text`,
-//!   which is valid input; `parts` of the view, each with `place`, `text`, `holds` and
-//!   `misses`: what the object lacks for it, each with `place`, `text`, `objects` and
-//!   `why`
-//! - of HELD: `axioms`, how many the schema has; `needed_axioms`, each with `place` and
-//!   `text`; `no_other_way`, whether the query is OPEN without any one of these;
-//!   `parts` of the query, each with `place`, `text` and `needed`; `empty`, whether no
-//!   legal state has an object of the query, null if that could not be asked;
-//!   `other_way` ("HELD", "OPEN", or null where the query cannot stand as a view);
-//!   `filter`, whether the list is still to be filtered by the query
-//!
-//! A `place` has `file`, `line` and `column`, both counted from 1.
+//! The explanation as JSON: one object. docs/TEXT.md has its keys.
 
 use super::fails::{Miss, Part};
 use super::instance::{Instance, OBJECT};

@@ -33,6 +33,19 @@ impl Value {
         }
     }
 
+    /// All keys in it, also those of what is inside.
+    pub fn keys(&self) -> Vec<&str> {
+        match self {
+            Value::Object(entries) => {
+                let inside = entries.iter().flat_map(|(_, value)| value.keys());
+                let keys = entries.iter().map(|(key, _)| key.as_str());
+                keys.chain(inside).collect()
+            }
+            Value::List(items) => items.iter().flat_map(Value::keys).collect(),
+            _ => Vec::new(),
+        }
+    }
+
     pub fn text(&self) -> &str {
         match self {
             Value::Text(text) => text,
