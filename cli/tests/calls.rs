@@ -97,9 +97,20 @@ fn options_may_stand_anywhere_before_two_dashes() {
     bik(&["check", "--", "--json"]).faults_as(unread);
 }
 
+/// The version in the header: the command has that of the library.
+fn library_version() -> String {
+    let header = include_str!("../../include/bikuvoa.h");
+    let parts = ["MAJOR", "MINOR", "PATCH"].map(|part| {
+        let define = format!("#define BIKUVOA_VERSION_{part} ");
+        let number = header.lines().find_map(|line| line.strip_prefix(&define));
+        number.expect("a part of the version")
+    });
+    parts.join(".")
+}
+
 #[test]
 fn help_and_version() {
-    bik(&["--version"]).says("bik 0.8.0\n", 0);
+    bik(&["--version"]).says(&format!("bik {}\n", library_version()), 0);
     bik(&["-V"]).says("bik 0.8.0\n", 0);
     let all = bik(&["--help"]);
     let called = CALLS.iter().filter_map(|(call, _)| call.first().copied());
