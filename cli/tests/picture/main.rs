@@ -6,6 +6,7 @@ mod graph;
 mod marks;
 mod places;
 mod routes;
+mod widths;
 mod xml;
 
 use bik::drawing::Drawing;
