@@ -15,9 +15,9 @@ static const char *const ATTRIBUTE_NAMES[] = {"wears", "records", "during", "att
 static bikuvoa_schema club(uint16_t *words, size_t room)
 {
     bikuvoa_schema s = bikuvoa_start_schema(words, room, CLASSES, ATTRIBUTES, 0);
+    bikuvoa_single(&s, PERSON, WEARS);             /* a person wears at most one thing */
     bikuvoa_subclass(&s, ROWER, PERSON);           /* a rower is a person */
     bikuvoa_necessary(&s, ROWER, WEARS);           /* a rower wears something */
-    bikuvoa_single(&s, PERSON, WEARS);             /* a person wears at most one thing */
     bikuvoa_relates(&s, WEARS, PERSON, STRAP);     /* persons wear, straps are worn */
     bikuvoa_necessary(&s, STRAP, RECORDS);         /* a strap has recorded something */
     bikuvoa_relates(&s, RECORDS, STRAP, BEAT);

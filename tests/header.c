@@ -61,9 +61,9 @@ enum { WEARS, RECORDS, DURING, ATTENDS };
 static bikuvoa_schema club(uint16_t *words, size_t room)
 {
     bikuvoa_schema s = bikuvoa_start_schema(words, room, 5, 4, 0);
+    bikuvoa_single(&s, PERSON, WEARS);
     bikuvoa_subclass(&s, ROWER, PERSON);
     bikuvoa_necessary(&s, ROWER, WEARS);
-    bikuvoa_single(&s, PERSON, WEARS);
     bikuvoa_relates(&s, WEARS, PERSON, STRAP);
     bikuvoa_necessary(&s, STRAP, RECORDS);
     bikuvoa_relates(&s, RECORDS, STRAP, BEAT);

@@ -29,9 +29,9 @@ pub fn club() -> Result<Club, BuildError> {
     let during = builder.attribute("during")?;
     let attends = builder.attribute("attends")?;
     builder
+        .single(person, wears)?
         .subclass(rower, person)?
         .necessary(rower, wears)?
-        .single(person, wears)?
         .relates(wears, person, strap)?
         .necessary(strap, records)?
         .relates(records, strap, beat)?
