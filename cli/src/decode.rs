@@ -11,7 +11,7 @@ use crate::refused::{in_record, Role, Sort};
 use crate::source::{Source, Span};
 use bikuvoa::layout::{self, Signature, CONCEPT, MAX_VIEWS, STATE};
 use bikuvoa::{Mark, Schema, State, Token};
-use naming::{named, Naming};
+use naming::Naming;
 
 pub use concept::concept;
 
@@ -183,5 +183,5 @@ fn names(signature: Signature) -> Names {
 }
 
 fn numbered(what: &'static str, count: u16) -> impl Iterator<Item = Name> {
-    (0..count).map(move |number| named(format!("{what}{number}")))
+    (0..count).map(move |number| Name::unplaced(format!("{what}{number}")))
 }

@@ -111,6 +111,14 @@ pub struct StateFrame {
     pub facts: Vec<(Fact, Span)>,
 }
 
+impl Name {
+    /// A name that stands nowhere in a text.
+    pub fn unplaced(text: String) -> Name {
+        let span = Span::default();
+        Name { text, span }
+    }
+}
+
 impl Names {
     pub fn signature(&self) -> Signature {
         let loose = self.constants.iter().enumerate();
@@ -141,12 +149,16 @@ impl Names {
 impl File {
     /// The schema's record.
     pub fn schema(&self) -> Vec<u16> {
-        let axioms: Vec<Pair> = self
-            .axioms
-            .iter()
-            .map(|stated| stated.axiom.words())
-            .collect();
-        layout::schema(self.names.signature(), &axioms)
+        self.schema_with(self.names.signature(), |_| true)
+    }
+
+    /// The record of a schema with this signature, and with those of the axioms, by
+    /// their place, that are kept.
+    pub fn schema_with(&self, signature: Signature, is_kept: impl Fn(usize) -> bool) -> Vec<u16> {
+        let stated = self.axioms.iter().enumerate();
+        let kept = stated.filter(|&(place, _)| is_kept(place));
+        let axioms: Vec<Pair> = kept.map(|(_, stated)| stated.axiom.words()).collect();
+        layout::schema(signature, &axioms)
     }
 
     /// The views in the order of the text.
@@ -164,6 +176,12 @@ impl File {
 }
 
 impl Concept {
+    /// A concept that stands nowhere in a text.
+    pub fn unplaced(node: Node) -> Concept {
+        let span = Span::default();
+        Concept { span, node }
+    }
+
     /// The parts that an object must all be in: those of `All`, or itself.
     pub fn parts(&self) -> &[Concept] {
         match &self.node {

@@ -16,7 +16,7 @@ pub const COMMAND: Command = Command {
     about: "the views of the file, narrow ones first, and which hold which",
     more: "
 A line has the views that hold each other, a narrower line before a wider one. Then it
-says of each view by which others it is held. A file for this has 1 to 16 views.
+says of each view by which others it is held. `check` says how many views there may be.
 ",
     run,
 };

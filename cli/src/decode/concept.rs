@@ -52,7 +52,7 @@ impl Pile {
                 Node::Common(self.path()?, right)
             }
         };
-        Some(Item::Concept(at(node)))
+        Some(Item::Concept(Concept::unplaced(node)))
     }
 
     /// The second concept is one part, and the first may have several already.
@@ -61,7 +61,7 @@ impl Pile {
         let first = self.concept()?;
         let mut parts = match first.node {
             Node::All(parts) => parts,
-            node => vec![at(node)],
+            node => vec![Concept::unplaced(node)],
         };
         parts.push(second);
         Some(Node::All(parts))
@@ -91,12 +91,5 @@ impl Pile {
             Item::Path(path) => Some(path),
             Item::Concept(_) => None,
         }
-    }
-}
-
-fn at(node: Node) -> Concept {
-    Concept {
-        span: NOWHERE,
-        node,
     }
 }

@@ -2,7 +2,6 @@
 
 use crate::lex::RESERVED;
 use crate::model::Name;
-use crate::source::Span;
 use std::collections::HashSet;
 use std::path::Path;
 
@@ -29,14 +28,7 @@ impl Naming {
         let free = names.find(|name| !RESERVED.contains(&name.as_str()) && !self.0.contains(name));
         let free = free.unwrap_or(name);
         self.0.insert(free.clone());
-        named(free)
-    }
-}
-
-pub(super) fn named(text: String) -> Name {
-    Name {
-        text,
-        span: Span::default(),
+        Name::unplaced(free)
     }
 }
 

@@ -93,7 +93,7 @@ impl Asked<'_> {
             span: Span::default(),
             steps: steps.to_vec(),
         };
-        self.is_in(&unplaced(Node::Reached(path)), object)
+        self.is_in(&Concept::unplaced(Node::Reached(path)), object)
     }
 
     /// Notes where the object fails in the concept.
@@ -144,7 +144,7 @@ impl Asked<'_> {
     ) -> Result<(), Fault> {
         let mut anywhere = before.to_vec();
         anywhere.push(Step {
-            landing: unplaced(Node::Everything),
+            landing: Concept::unplaced(Node::Everything),
             ..step.clone()
         });
         let has_values = self.leads_somewhere(&anywhere, object)?;
@@ -193,11 +193,4 @@ pub fn is_leaf(concept: &Concept) -> bool {
         concept.node,
         Node::All(_) | Node::Reached(_) | Node::Common(..)
     )
-}
-
-fn unplaced(node: Node) -> Concept {
-    Concept {
-        span: Span::default(),
-        node,
-    }
 }

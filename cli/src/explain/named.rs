@@ -20,21 +20,14 @@ pub fn frame(file: &File, query: &QueryClass, facts: &Facts) -> StateFrame {
     let objects =
         (0..facts.objects).map(|number| object_name(file, &supers, facts, Object(number)));
     StateFrame {
-        name: unplaced(free_name(file)),
+        name: Name::unplaced(free_name(file)),
         query: place.filter(|_| has_marks),
-        objects: objects.map(unplaced).collect(),
+        objects: objects.map(Name::unplaced).collect(),
         facts: facts
             .facts
             .iter()
             .map(|&fact| (fact, Span::default()))
             .collect(),
-    }
-}
-
-fn unplaced(text: String) -> Name {
-    Name {
-        text,
-        span: Span::default(),
     }
 }
 

@@ -5,7 +5,6 @@
 use super::question::Question;
 use crate::fault::Fault;
 use crate::model::{Concept, File, Node};
-use bikuvoa::layout::{self, Pair};
 
 /// Which are needed, by their place.
 #[derive(Clone, Debug)]
@@ -27,7 +26,7 @@ pub fn needed(
     let all = vec![true; file.axioms.len()];
     let asked = |query: &Concept, axioms: &[bool]| {
         let question = Question {
-            schema: schema(file, axioms),
+            schema: file.schema_with(file.names.signature(), |place| axioms[place]),
             query: query.words(),
             view: view.to_vec(),
         };
@@ -71,13 +70,6 @@ fn leave_out(
         run /= 2;
     }
     Ok(kept)
-}
-
-/// The schema with only these axioms.
-fn schema(file: &File, kept: &[bool]) -> Vec<u16> {
-    let axioms = file.axioms.iter().zip(kept).filter(|(_, &kept)| kept);
-    let axioms: Vec<Pair> = axioms.map(|(stated, _)| stated.axiom.words()).collect();
-    layout::schema(file.names.signature(), &axioms)
 }
 
 /// The concept with only these parts; without any it has all objects.

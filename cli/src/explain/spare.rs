@@ -4,20 +4,20 @@
 use super::question::Question;
 use crate::model::{Concept, File, Node, Path, Step};
 use crate::source::Span;
-use bikuvoa::layout::{self, Pair, MAX_ATTRIBUTES, MAX_CLASSES};
+use bikuvoa::layout::{MAX_ATTRIBUTES, MAX_CLASSES};
 use bikuvoa::{Attribute, Class};
 
 /// Asks whether the query is empty, by a class that the file does not declare, or else
 /// by having a value of a further attribute; nothing if there can be neither.
 pub fn is_empty(file: &File, query: &Concept) -> Option<Question> {
-    asked(file, query, unplaced)
+    asked(file, query, Concept::unplaced)
 }
 
 /// The same, by being in the view as well. No more objects are in both than in the
 /// one, and a state that shows an object of the query then has objects along the
 /// view's paths. Nothing if the two do not fit into a view.
 pub fn is_empty_beside(file: &File, query: &Concept, view: &Concept) -> Option<Question> {
-    let both = |spare| unplaced(Node::All(vec![view.clone(), unplaced(spare)]));
+    let both = |spare| Concept::unplaced(Node::All(vec![view.clone(), Concept::unplaced(spare)]));
     let question = asked(file, query, both)?;
     bikuvoa::check_view(&question.schema, &question.view).ok()?;
     Some(question)
@@ -34,13 +34,8 @@ fn asked(file: &File, query: &Concept, view: impl FnOnce(Node) -> Concept) -> Op
     } else {
         return None;
     };
-    let axioms: Vec<Pair> = file
-        .axioms
-        .iter()
-        .map(|stated| stated.axiom.words())
-        .collect();
     Some(Question {
-        schema: layout::schema(signature, &axioms),
+        schema: file.schema_with(signature, |_| true),
         query: query.words(),
         view: view(node).words(),
     })
@@ -51,17 +46,10 @@ fn has_value(attribute: Attribute) -> Node {
         span: Span::default(),
         attribute,
         backward: false,
-        landing: unplaced(Node::Everything),
+        landing: Concept::unplaced(Node::Everything),
     };
     Node::Reached(Path {
         span: Span::default(),
         steps: vec![step],
     })
-}
-
-fn unplaced(node: Node) -> Concept {
-    Concept {
-        span: Span::default(),
-        node,
-    }
 }
