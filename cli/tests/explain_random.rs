@@ -88,7 +88,7 @@ fn large_states_are_drawn_in_part() {
                 parts += 1;
                 assert!(objects > 40 && drawn < objects);
                 let left = objects - drawn;
-                let told = format!("{left} of {objects} objects are not drawn: ");
+                let told = format!("Not drawn: {left} of {objects} objects, touched by no path");
                 assert!(note.starts_with(&told), "{note}");
             }
         }

@@ -1,7 +1,7 @@
 //! The state as it is drawn.
 
 use super::facts::{Facts, Link};
-use super::fails::{is_leaf, Lack, Miss, SEVERAL};
+use super::fails::{is_leaf, Ends, Lack, Miss};
 use super::instance::{Instance, OBJECT};
 use super::witness::Witness;
 use super::wording::Wording;
@@ -14,12 +14,45 @@ use std::collections::BTreeSet;
 
 /// Of a state with more objects only those are drawn that the paths touch.
 const DRAWN: usize = 40;
+const UNTOUCHED: &str = "touched by no path of the query or the view";
+
+/// If these are more as well, so many objects are drawn at each place where the view
+/// fails.
+const SEVERAL: usize = 3;
 
 /// The counterexample, with what the view misses.
 pub fn open(explanation: &Explanation, open: &Open) -> Drawing {
-    let in_view = open.parts.iter().flat_map(|part| part.used.iter().copied());
     let misses = open.parts.iter().flat_map(|part| &part.misses);
-    Sketch::of(explanation, &open.instance, in_view.collect()).drawn(&misses.collect::<Vec<_>>())
+    let misses: Vec<&Miss> = misses.collect();
+    let sketch = |most| Sketch::of(explanation, &open.instance, in_view(open, most));
+    let whole = sketch(DRAWN);
+    let touched = whole.touched(&misses);
+    if whole.objects().len() <= DRAWN || touched.len() <= DRAWN {
+        return whole.drawn(&misses, UNTOUCHED);
+    }
+    let why = format!("touched by no path, or with {SEVERAL} others drawn at the same place");
+    sketch(SEVERAL).drawn(&misses, &why)
+}
+
+/// The pairs by which the object is in parts of the view, and those by which one comes
+/// to where it fails: at each place from so many objects, and to so many from each.
+fn in_view(open: &Open, most: usize) -> BTreeSet<Link> {
+    let witness = Witness::of(&open.instance.facts);
+    let mut come_to = BTreeSet::from([OBJECT]);
+    let mut pairs = BTreeSet::new();
+    for part in &open.parts {
+        pairs.extend(witness.pairs(&part.concept, OBJECT).unwrap_or_default());
+        for walk in part.misses.iter().flat_map(|miss| &miss.walks) {
+            let from = walk.from.iter().filter(|&from| come_to.contains(from));
+            let from: Vec<Object> = from.take(most).copied().collect();
+            for object in from {
+                let walked = witness.pairs_to_ends(&walk.steps, object, most);
+                come_to.extend(walked.iter().flat_map(|link| [link.first, link.second]));
+                pairs.extend(walked);
+            }
+        }
+    }
+    pairs
 }
 
 /// A small state with an object of the query, which is then in the view as well. If
@@ -41,7 +74,7 @@ pub fn held(explanation: &Explanation, progress: &mut dyn FnMut(&str)) -> Result
     let instance = Instance::of(file, query, &question, (state, object), progress)?;
     let in_view = Witness::of(&instance.facts).pairs(&view.concept, OBJECT);
     let sketch = Sketch::of(explanation, &instance, in_view.unwrap_or_default());
-    Ok(sketch.drawn(&[]))
+    Ok(sketch.drawn(&[], UNTOUCHED))
 }
 
 fn nothing(explanation: &Explanation, why: &str) -> Drawing {
@@ -79,21 +112,23 @@ impl<'a> Sketch<'a> {
         }
     }
 
-    fn drawn(&self, misses: &[&Miss]) -> Drawing {
-        let objects: Vec<Object> = (0..self.facts.objects).map(Object).collect();
+    fn objects(&self) -> Vec<Object> {
+        (0..self.facts.objects).map(Object).collect()
+    }
+
+    /// The drawing of all objects, or of those that are touched and why not of others.
+    fn drawn(&self, misses: &[&Miss], why_not: &str) -> Drawing {
+        let objects = self.objects();
         let drawn = match objects.len() > DRAWN {
             true => self.touched(misses),
             false => objects.clone(),
         };
-        let left = objects.len() - drawn.len();
+        let (all, left) = (objects.len(), objects.len() - drawn.len());
         let mut drawing = Drawing {
             title: self.explanation.title(),
             nodes: drawn.iter().map(|&object| self.node(object)).collect(),
             edges: self.edges(&drawn),
-            note: (left > 0).then(|| {
-                let all = objects.len();
-                format!("{left} of {all} objects are not drawn: no path of the query or the view touches them")
-            }),
+            note: (left > 0).then(|| format!("Not drawn: {left} of {all} objects, {why_not}.")),
         };
         for miss in misses {
             self.draw_miss(miss, &drawn, &mut drawing);
@@ -101,18 +136,15 @@ impl<'a> Sketch<'a> {
         drawing
     }
 
-    /// The objects on the paths and where something is missed, ascending.
+    /// The objects on the paths, and those on which missing steps would land.
     fn touched(&self, misses: &[&Miss]) -> Vec<Object> {
         let mut touched = BTreeSet::from([OBJECT]);
         for link in self.in_query.iter().chain(&self.in_view) {
             touched.extend([link.first, link.second]);
         }
         for miss in misses {
-            touched.extend(miss.objects.iter().take(SEVERAL));
-            match &miss.lack {
-                Lack::Value(step) => touched.extend(self.named_landing(&step.landing)),
-                Lack::Landing(_, values) => touched.extend(values.iter().take(SEVERAL)),
-                Lack::Being(_) | Lack::Meeting { .. } => {}
+            if let Lack::Value(step) = &miss.lack {
+                touched.extend(self.named_landing(&step.landing));
             }
         }
         touched.into_iter().collect()
@@ -172,14 +204,16 @@ impl<'a> Sketch<'a> {
             }
             Lack::Landing(..) => {}
             Lack::Value(step) => self.draw_missing_step(step, &miss.objects, drawn, drawing),
-            Lack::Meeting { left, right, .. } => {
-                // The object itself is not said to be another one.
-                let (ends, others) = match left.as_slice() {
-                    [OBJECT] => (right, left),
-                    _ => (left, right),
-                };
-                let same = format!("= {}", self.wording.any_of(others));
-                lack(drawing, drawn, ends, same);
+            Lack::Meeting(_, ends) => {
+                for (object, Ends { left, right }) in miss.objects.iter().zip(ends) {
+                    // The object itself is not said to be another one.
+                    let (ends, others) = match left.as_slice() {
+                        [only] if only == object => (right, left),
+                        _ => (left, right),
+                    };
+                    let same = format!("= {}", self.wording.any_of(others));
+                    lack(drawing, drawn, ends, same);
+                }
             }
         }
     }
@@ -192,6 +226,11 @@ impl<'a> Sketch<'a> {
         drawn: &[Object],
         drawing: &mut Drawing,
     ) {
+        let places = objects.iter().map(|object| drawn.binary_search(object));
+        let places: Vec<usize> = places.flatten().collect();
+        if places.is_empty() {
+            return;
+        }
         let named = self.named_landing(&step.landing);
         let landing = named.and_then(|object| drawn.binary_search(&object).ok());
         let landing = landing.unwrap_or_else(|| {
@@ -204,10 +243,7 @@ impl<'a> Sketch<'a> {
             });
             drawing.nodes.len() - 1
         });
-        for object in objects.iter().take(SEVERAL) {
-            let Ok(at) = drawn.binary_search(object) else {
-                continue;
-            };
+        for at in places {
             let (from, to) = match step.backward {
                 false => (at, landing),
                 true => (landing, at),
@@ -237,9 +273,9 @@ impl<'a> Sketch<'a> {
     }
 }
 
-/// Notes what the first of these objects lack.
+/// Notes what those of the objects lack that are drawn.
 fn lack(drawing: &mut Drawing, drawn: &[Object], objects: &[Object], what: String) {
-    for object in objects.iter().take(SEVERAL) {
+    for object in objects {
         let place = drawn.binary_search(object).ok();
         let node = place.and_then(|place| drawing.nodes.get_mut(place));
         if let Some(node) = node.filter(|node| !node.lacks.contains(&what)) {

@@ -26,9 +26,9 @@ impl<'a> Witness<'a> {
         self.collect(concept, object, &mut pairs).then_some(pairs)
     }
 
-    /// The objects to which the steps lead from the object.
-    pub fn ends(&self, steps: &[Step], object: Object) -> Vec<Object> {
-        self.ways(steps, object).ends()
+    /// The objects to which the steps lead from any of the objects.
+    pub fn ends(&self, steps: &[Step], objects: &[Object]) -> Vec<Object> {
+        self.ways_over(steps, &self.landings(steps), objects).ends()
     }
 
     /// The pairs of one way along the steps to each of so many of their ends.
@@ -89,7 +89,7 @@ impl<'a> Witness<'a> {
     }
 
     fn ways(&self, steps: &[Step], object: Object) -> Ways {
-        self.ways_over(steps, &self.landings(steps), object)
+        self.ways_over(steps, &self.landings(steps), &[object])
     }
 
     /// The landings are found once for all objects from which one may start.
@@ -100,8 +100,9 @@ impl<'a> Witness<'a> {
             .collect()
     }
 
-    fn ways_over(&self, steps: &[Step], landings: &[Members], object: Object) -> Ways {
-        let mut levels = vec![BTreeMap::from([(object, None)])];
+    fn ways_over(&self, steps: &[Step], landings: &[Members], objects: &[Object]) -> Ways {
+        let start = objects.iter().map(|&object| (object, None));
+        let mut levels = vec![BTreeMap::from_iter(start)];
         for (step, landing) in steps.iter().zip(landings) {
             let mut next = BTreeMap::new();
             for link in self.links_of(step) {
@@ -159,8 +160,8 @@ impl<'a> Witness<'a> {
     fn meeting(&self, left: &[Step], right: &[Step]) -> Members {
         let landings = [left, right].map(|steps| self.landings(steps));
         let meets = |object| {
-            let one = self.ways_over(left, &landings[0], object).ends();
-            let other = self.ways_over(right, &landings[1], object).ends();
+            let one = self.ways_over(left, &landings[0], &[object]).ends();
+            let other = self.ways_over(right, &landings[1], &[object]).ends();
             one.iter().any(|end| other.contains(end))
         };
         (0..self.facts.objects).map(Object).map(meets).collect()

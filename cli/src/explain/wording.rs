@@ -1,6 +1,7 @@
 //! What fails, in words.
 
-use super::fails::{Lack, Miss};
+use super::fails::{Ends, Lack, Miss};
+use super::instance::OBJECT;
 use crate::model::{Concept, File, Names, Node, Path, StateFrame, Step};
 use crate::print;
 use bikuvoa::{Constant, Fact, Object};
@@ -124,7 +125,7 @@ impl<'a> Wording<'a> {
         match &miss.lack {
             Lack::Being(concept) => self.landing(concept),
             Lack::Value(step) | Lack::Landing(step, _) => self.step(step),
-            Lack::Meeting { equation, .. } => self.part(equation),
+            Lack::Meeting(equation, _) => self.part(equation),
         }
     }
 
@@ -144,22 +145,34 @@ impl<'a> Wording<'a> {
                 let (values, landing) = (self.list(values), self.landing(&step.landing));
                 format!("{relation} of {objects}: {values}, {none} {landing}")
             }
-            Lack::Meeting { left, right, .. } => {
-                let (left, right) = (self.list(left), self.list(right));
-                format!("one side leads to {left}, the other to {right}")
-            }
+            Lack::Meeting(_, ends) => self.why_apart(&miss.objects, ends),
+        }
+    }
+
+    fn why_apart(&self, objects: &[Object], ends: &[Ends]) -> String {
+        let from = self.list(objects);
+        let [Ends { left, right }] = ends else {
+            return format!("from each of {from} the two sides lead to different objects");
+        };
+        let (left, right) = (self.list(left), self.list(right));
+        let sides = format!("one side leads to {left}, the other to {right}");
+        match objects {
+            // Of the object that all is about this need not be said.
+            [OBJECT] => sides,
+            _ => format!("from {from} {sides}"),
         }
     }
 
     fn why_not(&self, objects: &[Object], concept: &Concept) -> String {
-        let objects = self.list(objects);
+        let (names, landing) = (self.list(objects), self.landing(concept));
         match &concept.node {
             Node::Constant(constant) => {
                 let named = self.named(*constant).map(|object| self.object(object));
                 let named = named.unwrap_or("another object");
-                format!("{} is {named}, not {objects}", self.landing(concept))
+                format!("{landing} is {named}, not {}", self.any_of(objects))
             }
-            _ => format!("{objects} is not in {}", self.landing(concept)),
+            _ if objects.len() > 1 => format!("{names} are not in {landing}"),
+            _ => format!("{names} is not in {landing}"),
         }
     }
 
