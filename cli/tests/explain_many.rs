@@ -7,10 +7,10 @@ use bik::drawing::Drawing;
 use explained::{asked, file};
 
 /// A schema in which each of so many values of `a`, one in each class `C0`, `C1` and so
-/// forth, begins a chain with this many objects. The query asks for all these values,
-/// and the view for a `D` at the end of a chain.
-fn chains(count: usize, length: usize) -> String {
-    let mut text = String::from("Attribute a end Attribute b end Class D end\n");
+/// forth, begins a chain with this many objects, in `M1`, `M2` and so forth. The query
+/// asks for all these values.
+fn chains(count: usize, length: usize, view: &str) -> String {
+    let mut text = format!("Attribute a end Attribute b end Class D end View V {view} end\n");
     for i in 1..length {
         text += &format!("Class M{i} end\n");
     }
@@ -22,18 +22,23 @@ fn chains(count: usize, length: usize) -> String {
     for class in &classes {
         text += &format!("Class {class} with attribute, necessary a: M1 end\n");
     }
-    // Otherwise one object that is in every class would do.
-    text += "axiom C0 isA D\nQueryClass Q with derived ";
+    text += "QueryClass Q with derived ";
     for class in &classes {
         text += &format!("(a: {class}) ");
     }
-    let steps = "a.".repeat(length - 1);
-    text + &format!("end\nView V with derived {steps}(a: D) end\n")
+    // A state with one object that is in every class is ruled out by this.
+    text + "end\naxiom C0 isA D\n"
 }
 
 fn drawn(text: &str) -> Drawing {
     let answer = asked(&file("n", text), "Q", "V");
     answer.drawing(&mut |_| {}).expect("a drawing")
+}
+
+/// How many objects are drawn, and the note.
+fn shown(drawing: &Drawing) -> (usize, Option<&str>) {
+    let objects = drawing.nodes.iter().filter(|node| !node.missing);
+    (objects.count(), drawing.note.as_deref())
 }
 
 /// How many objects lack a `D`, and how many pairs the view is said to use.
@@ -45,29 +50,62 @@ fn marked(drawing: &Drawing) -> (usize, usize) {
 
 #[test]
 fn forty_objects_are_all_drawn_and_marked() {
-    let drawing = drawn(&chains(13, 3));
-    assert_eq!((drawing.nodes.len(), drawing.note.as_deref()), (40, None));
+    let drawing = drawn(&chains(13, 3, "with derived a.a.(a: D)"));
+    assert_eq!(shown(&drawing), (40, None));
     assert_eq!(marked(&drawing), (13, 39));
+    // Also those that no path touches.
+    let text = chains(12, 3, "with derived a.a.(a: D)") + "Constant x Constant y Constant z";
+    assert_eq!(shown(&drawn(&text)), (40, None));
 }
 
 #[test]
 fn of_more_objects_those_are_drawn_that_paths_touch() {
-    let drawing = drawn(&(chains(13, 3) + "axiom C1 needs b"));
+    let text = chains(13, 3, "with derived a.a.(a: D)") + "axiom C1 needs b";
+    let drawing = drawn(&text);
     let note = "Not drawn: 1 of 41 objects, touched by no path of the query or the view.";
-    assert_eq!(drawing.nodes.len(), 40);
-    assert_eq!(drawing.note.as_deref(), Some(note));
+    assert_eq!(shown(&drawing), (40, Some(note)));
     assert_eq!(marked(&drawing), (13, 39));
+    // A step that is missed would touch what a constant names.
+    let text = chains(12, 3, "with derived a.a.(a: D) (b: {x})");
+    let drawing = drawn(&(text + "Constant x Constant y Constant z Constant w"));
+    let note = "Not drawn: 3 of 41 objects, touched by no path of the query or the view.";
+    assert_eq!(shown(&drawing), (1 + 12 * 3 + 1, Some(note)));
+    let landing = drawing.nodes.iter().position(|node| node.called == ["{x}"]);
+    let missed = drawing.edges.iter().find(|edge| edge.missing);
+    assert_eq!(missed.map(|edge| edge.to), landing);
 }
 
 #[test]
 fn of_more_objects_on_the_paths_three_are_drawn_at_a_place() {
-    let drawing = drawn(&chains(10, 4));
-    let note =
-        "Not drawn: 21 of 41 objects, touched by no path, or with 3 others drawn at the same place.";
+    let drawing = drawn(&chains(10, 4, "with derived a.a.a.(a: D)"));
+    let why = "touched by no path, or with 3 others drawn at the same place.";
+    let note = format!("Not drawn: 21 of 41 objects, {why}");
     // The object, its ten values, and what follows after three of them.
-    assert_eq!(drawing.nodes.len(), 1 + 10 + 3 * 3);
-    assert_eq!(drawing.note.as_deref(), Some(note));
+    assert_eq!(shown(&drawing), (1 + 10 + 3 * 3, Some(note.as_str())));
     assert_eq!(marked(&drawing), (3, 3 * 4));
+    // The first chain has a D at its end, but neither it nor any other has a B.
+    let nested = "with derived a.(a: [isA B with derived a.(a: D)])";
+    let text = chains(12, 4, nested)
+        + "Class B end Class N1 end Class N2 end
+           axiom C0 types a: N1 axiom N1 types a: N2 axiom N2 types a: D";
+    let drawing = drawn(&text);
+    let note = format!("Not drawn: 29 of 49 objects, {why}");
+    // Of three objects after the values two have no D in the end.
+    assert_eq!(shown(&drawing), (1 + 12 + 3 + 2 * 2, Some(note.as_str())));
+    let lacking = drawing.nodes.iter().filter(|node| node.lacks == ["B"]);
+    assert_eq!(lacking.count(), 3);
+}
+
+#[test]
+fn what_is_missed_is_drawn_only_at_objects_that_are_drawn() {
+    // The first three chains have a value of b at their ends, and no other has.
+    let text = chains(10, 4, "with derived a.a.a.(a: [isA B with derived b])")
+        + "Class B end Class N1 end Class N2 end Class N end axiom C0 isA B
+           axiom C0 types a: N1 axiom C1 types a: N1 axiom C2 types a: N1
+           axiom N1 types a: N2 axiom N2 types a: N axiom N needs b";
+    let drawing = drawn(&text);
+    assert_eq!(shown(&drawing).0, 1 + 10 + 3 * 3);
+    assert_eq!(drawing.nodes.len(), 1 + 10 + 3 * 3);
 }
 
 /// What is said of an object that has a value of `a` in each of two classes, the first of

@@ -26,8 +26,7 @@ pub fn open(explanation: &Explanation, open: &Open) -> Drawing {
     let misses: Vec<&Miss> = misses.collect();
     let sketch = |most| Sketch::of(explanation, &open.instance, in_view(open, most));
     let whole = sketch(DRAWN);
-    let touched = whole.touched(&misses);
-    if whole.objects().len() <= DRAWN || touched.len() <= DRAWN {
+    if whole.touched(&misses).len() <= DRAWN {
         return whole.drawn(&misses, UNTOUCHED);
     }
     let why = format!("touched by no path, or with {SEVERAL} others drawn at the same place");
@@ -35,7 +34,7 @@ pub fn open(explanation: &Explanation, open: &Open) -> Drawing {
 }
 
 /// The pairs by which the object is in parts of the view, and those by which one comes
-/// to where it fails: at each place from so many objects, and to so many from each.
+/// to where it fails, from each object to so many at one place.
 fn in_view(open: &Open, most: usize) -> BTreeSet<Link> {
     let witness = Witness::of(&open.instance.facts);
     let mut come_to = BTreeSet::from([OBJECT]);
@@ -44,8 +43,7 @@ fn in_view(open: &Open, most: usize) -> BTreeSet<Link> {
         pairs.extend(witness.pairs(&part.concept, OBJECT).unwrap_or_default());
         for walk in part.misses.iter().flat_map(|miss| &miss.walks) {
             let from = walk.from.iter().filter(|&from| come_to.contains(from));
-            let from: Vec<Object> = from.take(most).copied().collect();
-            for object in from {
+            for object in from.copied().collect::<Vec<Object>>() {
                 let walked = witness.pairs_to_ends(&walk.steps, object, most);
                 come_to.extend(walked.iter().flat_map(|link| [link.first, link.second]));
                 pairs.extend(walked);
@@ -112,13 +110,9 @@ impl<'a> Sketch<'a> {
         }
     }
 
-    fn objects(&self) -> Vec<Object> {
-        (0..self.facts.objects).map(Object).collect()
-    }
-
     /// The drawing of all objects, or of those that are touched and why not of others.
     fn drawn(&self, misses: &[&Miss], why_not: &str) -> Drawing {
-        let objects = self.objects();
+        let objects: Vec<Object> = (0..self.facts.objects).map(Object).collect();
         let drawn = match objects.len() > DRAWN {
             true => self.touched(misses),
             false => objects.clone(),
