@@ -23,6 +23,7 @@ use crate::drawing::Drawing;
 use crate::fault::Fault;
 use crate::model::{File, QueryClass};
 use crate::refused::{self, Role};
+use bikuvoa::layout::STEPS;
 use bikuvoa::{Decision, Refusal};
 use fails::Part;
 use instance::Instance;
@@ -122,7 +123,7 @@ impl Held {
 
 impl OtherWay {
     fn of(question: &Question) -> Result<OtherWay, Fault> {
-        let steps = question.query.get(1).copied().unwrap_or(0);
+        let steps = question.query.get(STEPS).copied().unwrap_or(0);
         match bikuvoa::check_view(&question.schema, &question.query) {
             Ok(_) => {}
             Err(Refusal::BAD_STEPS) => return Ok(OtherWay::HasSteps(steps.into())),

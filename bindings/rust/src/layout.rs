@@ -71,6 +71,8 @@ pub const CONCEPT: Layout = Layout {
     counter: 0,
     max: MAX_TOKENS,
 };
+/// The place of the count of steps among a concept's size words.
+pub const STEPS: usize = 1;
 
 /// Size words: objects, facts, class facts.
 pub const STATE: Layout = Layout {
@@ -165,7 +167,9 @@ pub fn schema(signature: Signature, axioms: &[Pair]) -> Vec<u16> {
 /// A concept record, which counts its steps.
 pub fn concept(tokens: &[Pair]) -> Vec<u16> {
     let steps = tokens.iter().filter(|&&token| token::is_step(token));
-    CONCEPT.record(&[0, steps.count() as u16], tokens)
+    let mut words = CONCEPT.record(&[], tokens);
+    words[STEPS] = steps.count() as u16;
+    words
 }
 
 /// A state record, which counts its class facts, with the facts in the order in which

@@ -3,7 +3,7 @@
 
 use super::Role;
 use bikuvoa::layout::{self, fact, token, Layout, Pair, Signature};
-use bikuvoa::layout::{CLASS_FACTS, CONCEPT, LOOSE, SCHEMA, STATE};
+use bikuvoa::layout::{CLASS_FACTS, CONCEPT, LOOSE, SCHEMA, STATE, STEPS};
 use bikuvoa::{catalogue, check_concept, check_query, check_view};
 use bikuvoa::{Refusal, Schema, State, Token};
 
@@ -189,12 +189,12 @@ impl Record<'_> {
             return Spot::Whole;
         };
         if self.sort.refusal(counted).is_none() {
-            return Spot::Size(1);
+            return Spot::Size(STEPS);
         }
         let entries = self.entries.iter().enumerate();
         let mut steps = entries.filter(|&(_, &entry)| token::is_step(entry));
         let above = steps.nth(role.most_steps());
-        above.map_or(Spot::Size(1), |(place, _)| Spot::Entry(place))
+        above.map_or(Spot::Size(STEPS), |(place, _)| Spot::Entry(place))
     }
 
     /// The fact of a constant or a mark that has several, or of a constant whose
@@ -209,10 +209,11 @@ impl Record<'_> {
             Sort::State { schema } => Signature::of(schema).unwrap_or_default(),
             _ => Signature::default(),
         };
+        let objects = layout::objects(self.sizes).unwrap_or_default();
         for constants in 1..=signature.constants {
             let kind = fact::CONSTANT_KINDS.saturating_add(constants);
             let facts: Vec<Pair> = kinds_below(kind).copied().collect();
-            if !accepts(signature, constants, layout::state(self.sizes[0], &facts)) {
+            if !accepts(signature, constants, layout::state(objects, &facts)) {
                 let before = kinds_below(kind - 1).count();
                 return match facts.len() > before {
                     true => Spot::Entry(facts.len() - 1),
