@@ -56,13 +56,18 @@ taken = {spelled(n) for n in own if "-" not in n}
 turned = turned | {n: s + "_lem" for n, s in turned.items() if "-" in n and n[0].islower() and s in taken}
 turned = turned | {"made_all": "made_all_lem", "left_is": "left_is_lem"}  # lemmas that port.py had spelled already
 
-made = {p: set(MADE.findall(t)) for p, t in texts.items()}
+# What a file keeps: names that Rattle makes, and those that it imports from a library.
+kept = {p: set(MADE.findall(t)) for p, t in texts.items()}
+for p, t in texts.items():
+    for module, items in re.findall(r"use ((?:\w+\.)+)\{([^}]*)\}", t):
+        if not module.startswith("Rattle.") or module.startswith("Rattle.std."):
+            kept[p] |= {item.split(" as ")[0].strip() for item in items.split(",")}
 
 
 def turn(path, text):
     def word(m):
         w = m[0]
-        return w if w in made[path] else turned.get(w, w)
+        return w if w in kept[path] else turned.get(w, w)
     return TOKEN.sub(word, text)
 
 

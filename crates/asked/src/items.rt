@@ -106,7 +106,7 @@ fn path(query: &[u16], kind: Kind, first: usize, end: usize, node: usize, list: 
 }
 
 // The token of a step: where it stands, its attribute, and whether the step goes backward.
-#[derive(Drop)]
+#[derive(Clone, Copy)]
 struct StepToken {
     at: usize,
     attribute: usize,

@@ -14,7 +14,7 @@ use primary::rules::{MAX_NODES, PART};
 use records::layout::{narrow, wide, word};
 
 // The ties; and the node of each mark, at the place that the mark has in an equation.
-#[derive(Drop)]
+#[derive(Clone, Copy)]
 pub struct Tied {
     pub ties: Words,
     pub nodes: [u16; PART],

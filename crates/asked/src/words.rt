@@ -12,7 +12,7 @@ use primary::rules::{MAX_NODES, PART};
 use records::layout::narrow;
 use records::token::MAX_TOKENS;
 
-#[derive(Drop)]
+#[derive(Clone, Copy)]
 pub enum Kind {
     Members,
     Equations,
@@ -20,7 +20,7 @@ pub enum Kind {
 }
 
 // There are no more facts than tokens.
-#[derive(Drop)]
+#[derive(Clone, Copy)]
 pub struct Words {
     pub count: usize,
     pub words: [u16; MAX_TOKENS],

@@ -2,6 +2,8 @@
 // numbers of its views, a narrower group before a wider one; then, after an empty line, a line for each view with the views by
 // which it is held. Or it prints REFUSED with the number. What order and verdicts promise and which words a file's bytes give is
 // proved; what is printed is held to the stored run.
+#![tactic(auto)]
+
 use catalogue::arrange::Order;
 use catalogue::order::order;
 use catalogue::sets::has;

@@ -4,7 +4,7 @@ use Prim.Native.Nat.{ℕ, zero, suc, ◌+◌, ◌≤◌, ◌<◌}
 use native.Mathlib.Decide.{ℕ_discrete}
 use native.Mathlib.Numerals.{add-one}
 use native.Mathlib.Omega.{arith}
-use mathlib.Core.Bool.{Bool, true, false, So, cond, not, ◌&&◌, ◌||◌, and-true, and_false, or_false}
+use mathlib.Core.Bool.{Bool, true, false, So, cond, not, ◌&&◌, ◌||◌, and-true, and-false, or-false}
 use mathlib.Core.List.{List, [], ◌∷◌}
 use mathlib.Core.Path.{◌≡◌, refl, sym, ap, ap₂, subst, ◌∙◌}
 use lib.Dec.{eqb, ltb}
@@ -132,7 +132,7 @@ module _ (P d : ℕ) where
   none_from h [] = refl
   none_from h (w ∷ l) =
       ap₂ ◌||◌
-      (ap (λ (b : Bool). eqb (edge_of w).attribute P && b) (ne_eqb (edge_of w).origin d (λ q. omega arith)) ∙ and_false (eqb (edge_of w).attribute P))
+      (ap (λ (b : Bool). eqb (edge_of w).attribute P && b) (ne_eqb (edge_of w).origin d (λ q. omega arith)) ∙ and-false (eqb (edge_of w).attribute P))
       (none_from h l)
 
   pub asked_beyond : (g : ℕ) (objects l : List ℕ) → part ≤ d → false ≡ asks (ground_in g objects l) P d
@@ -175,7 +175,7 @@ module _ (l : List ℕ) (P : ℕ) where
           (sym (ap (λ (t : Bool). here && t) (eq-eqb o d (sym q)) ∙ and-true here))
       pick d (no n) b p =
           get_or-set_other table o d new false n ∙ p
-          ∙ sym (ap (λ (t : Bool). b || t) (ap (λ (t : Bool). here && t) (ne_eqb o d (λ q. n (sym q))) ∙ and_false here) ∙ or_false b)
+          ∙ sym (ap (λ (t : Bool). b || t) (ap (λ (t : Bool). here && t) (ne_eqb o d (λ q. n (sym q))) ∙ and-false here) ∙ or-false b)
 
   pub origins_all : (i : ℕ) (table : List Bool) → length l ≤ i → Origins (take i l) P table → Origins l P table
   origins_all i table h z = subst (λ (m : List ℕ). Origins m P table) (take_all i l h) z

@@ -16,14 +16,14 @@ use records::schema::Signature;
 use records::state::MARK_KINDS;
 
 // The set of the marks that the query uses, and the node of each, from MAX_NODES on.
-#[derive(Drop)]
+#[derive(Clone, Copy)]
 pub struct Marks {
     pub used: u32,
     pub nodes: [u16; PART],
 }
 
 // What the facts are listed by, beside the arrays.
-#[derive(Drop)]
+#[derive(Clone, Copy)]
 pub struct Shape {
     pub sizes: Sizes,
     pub marks: Marks,

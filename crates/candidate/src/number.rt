@@ -23,7 +23,7 @@ use records::schema::{Signature, signature_of};
 
 // How many objects there are: those of the ground, those with the made ones, and all, with the closing object where there
 // is one.
-#[derive(Drop)]
+#[derive(Clone, Copy)]
 pub struct Sizes {
     pub ground: usize,
     pub made: usize,

@@ -9,7 +9,7 @@ ghost use Rattle.catalogue.specs.Helpers.{in_row, unplaced, Rows};
 use crate::sets::{has, only_if};
 use check_catalogue::MAX_VIEWS;
 
-#[derive(Drop)]
+#[derive(Clone, Copy)]
 pub struct Order {
     // The set of the views in each group, and 0 after the last.
     pub groups: [u16; MAX_VIEWS],

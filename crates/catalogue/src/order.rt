@@ -6,7 +6,7 @@ use crate::check::refusal;
 use crate::pairs::rows;
 use check_catalogue::{MAX_VIEWS, views};
 
-#[derive(Drop)]
+#[derive(Clone, Copy)]
 pub struct OrderAnswer {
     // The number of the first refusal that applies, or 0.
     pub refusal: u16,

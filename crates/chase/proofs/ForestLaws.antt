@@ -3,7 +3,7 @@
 use Prim.Native.Nat.{ℕ, zero, suc, ◌≤◌, ◌<◌}
 use native.Mathlib.Omega.{arith}
 use native.Mathlib.Decide.{dec_lt}
-use mathlib.Core.Bool.{Bool, false, So, cond, not, ◌&&◌, ◌||◌, false≢true, and_false}
+use mathlib.Core.Bool.{Bool, false, So, cond, not, ◌&&◌, ◌||◌, false≢true, and-false}
 use mathlib.Core.Logic.{◌⊎◌, inl, inr, ⊎_elim}
 use mathlib.Core.Path.{◌≡◌, refl, sym, ap, ap₂, subst, subst₂, ◌∙◌}
 use lib.Dec.{eqb, ltb}
@@ -69,7 +69,7 @@ module _ (S : Schema) (G : Ground) where
   kid_lacks T P d e q =
       ap (λ (b : Bool). needs S (classes_of S G T d) P && not b)
       (or_right (asks G P d) (ltb 0 (kid G T P d)) (lt-ltb 0 (kid G T P d) (omega arith)))
-      ∙ and_false (needs S (classes_of S G T d) P)
+      ∙ and-false (needs S (classes_of S G T d) P)
 
   -- d lacks in U what it lacks in T, if its made value is the same
   same_lacks : {T U : Forest} → Grown T U → (P d : ℕ) → d < size G T → kid G U P d ≡ kid G T P d → lacks S G U P d ≡ lacks S G T P d

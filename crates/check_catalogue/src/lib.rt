@@ -1,4 +1,6 @@
 // The catalogue record: its views, and its check (refusal 13, and those of each view).
+#![tactic(auto)]
+
 ghost use Rattle.std.specs.Prelude.{◌≡◌, ◌+◌, ◌≤◌, length};
 ghost use Rattle.records.specs.Helpers.Word.{IsWord};
 ghost use Rattle.records.specs.Layout.{max_views};

@@ -1,4 +1,6 @@
 // The check of a concept record: that its tokens make one concept, of declared names and few enough steps, and what they name.
+#![tactic(auto)]
+
 ghost use Rattle.std.specs.Prelude.{◌≡◌, not, ◌||◌};
 ghost use Rattle.records.specs.Layout.{query_steps, view_steps, query_marks, no_marks};
 ghost use Rattle.records.specs.ConceptRecord.{token_of};

@@ -7,7 +7,7 @@ use crate::sorts::{EMPTY, Sorts};
 use records::named::Named;
 use records::token::{Token, is_step};
 
-#[derive(Drop)]
+#[derive(Clone, Copy)]
 pub struct Scan {
     pub pile: Sorts,
     pub steps: usize,

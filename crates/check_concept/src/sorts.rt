@@ -6,7 +6,7 @@ use records::token::Token;
 
 // The sorts of the pile's items as bits, the top lowest: 0 a concept, 1 a path.
 // Once a token has taken what is not there, nothing is kept but that it failed.
-#[derive(Drop)]
+#[derive(Clone, Copy)]
 pub struct Sorts {
     pub ok: bool,
     pub bits: u64,

@@ -1,4 +1,6 @@
 // The check of a schema record: refusals 1, 14 and 2.
+#![tactic(auto)]
+
 ghost use Rattle.std.specs.Prelude.{◌≡◌, ◌<◌, ◌≤◌, ◌^◌};
 ghost use Rattle.check_schema.specs.Scan.{content_answer};
 ghost use Rattle.records.specs.Layout.{max_constants};

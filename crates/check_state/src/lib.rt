@@ -1,4 +1,6 @@
 // The check of a state record: refusals 7, 8, 9, 15 and 10.
+#![tactic(auto)]
+
 ghost use Rattle.std.specs.Prelude.{◌||◌, false, ◌≡◌, suc, ◌<◌, ◌^◌, length};
 ghost use Rattle.records.specs.StateRecord.{is_class_fact};
 ghost use Rattle.records.specs.StateRefusal.{refusal_7, refusal_9, refusal_15, declares_kind, suits_kind, faulty_fact, ascends as ascends_at, state_answer};

@@ -10,7 +10,7 @@ use crate::sets::place;
 use records::schema::{Axiom, MAX_ATTRIBUTES, axiom_at, axioms};
 
 // The classes of `set` are to be in the domain of `attribute`.
-#[derive(Drop)]
+#[derive(Clone, Copy)]
 struct Entry {
     attribute: usize,
     set: u32,

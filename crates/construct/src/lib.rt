@@ -1,5 +1,7 @@
 // The candidate of an accepted schema, query and view: the query's facts are read and closed under the axioms, the
 // representatives numbered, values made as the view asks for them, and the objects counted. Each part is the model's (crate chase).
+#![tactic(auto)]
+
 ghost use Rattle.std.specs.Prelude.{◌≡◌, ◌≤◌, length};
 ghost use Rattle.records.specs.Layout.{max_tokens, max_objects};
 ghost use Rattle.records.specs.Helpers.Triple.{Triple};
@@ -31,7 +33,7 @@ use records::schema::signature_of;
 
 // Whether two constants are one object, so that there is no candidate; otherwise the query's edges between objects, how many
 // objects there are, and the marks.
-#[derive(Drop)]
+#[derive(Clone, Copy)]
 pub struct Made {
     pub clashes: bool,
     pub edges: Words,
@@ -39,7 +41,7 @@ pub struct Made {
 }
 
 // What is kept of the query's facts: its edges, and its marks.
-#[derive(Drop)]
+#[derive(Clone, Copy)]
 struct Read {
     edges: Words,
     marks: Marks,

@@ -8,7 +8,7 @@ use check_schema::check_schema;
 use records::concept::ConceptAnswer;
 use records::schema::SchemaAnswer;
 
-#[derive(Drop)]
+#[derive(Clone, Copy)]
 pub enum HoldsAnswer {
     Held,
     Open,

@@ -1,5 +1,7 @@
 // Decide: whether in every legal state each object in the query is in the view. If not, a legal state with an object in the
 // query and outside the view is written to the lent words. Arbitrary words are taken; faulty records are refused by number.
+#![tactic(auto)]
+
 ghost use Rattle.decide.specs.Decision.{Decision};
 
 use crate::verdict::answer;
@@ -14,7 +16,7 @@ pub mod holds;
 mod start;
 mod verdict;
 
-#[derive(Drop)]
+#[derive(Clone, Copy)]
 pub enum DecideAnswer {
     Held,
     // How many objects the written state has, and the object.

@@ -1,6 +1,8 @@
 // Decides the triple in schema.bin, query.bin and view.bin of the folder it is run in, and prints HELD, or OPEN with the
 // number of objects and the object and then each fact of the state, or REFUSED with the number. What decide promises and
 // which words a file's bytes give is proved; what is printed is held to the stored runs of bikuvoa and bikuvoa_open.
+#![tactic(auto)]
+
 use decide::{DecideAnswer, decide};
 use records::layout::{left, right};
 use records::schema::{MAX_AXIOMS, SCHEMA_SIZES};

@@ -6,7 +6,7 @@ ghost use Rattle.encoding.specs.Half.{word_of};
 use records::state::WORD_PART;
 
 // The two words of a fact.
-#[derive(Drop)]
+#[derive(Clone, Copy)]
 enum Half {
     Left,
     Right,

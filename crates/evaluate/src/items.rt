@@ -16,7 +16,7 @@ use rows::sets::{everything, kind_set, put, shared_row};
 use rows::sizes::SET_WORDS;
 
 // Where a concept's tokens start, and the set that it selects.
-#[derive(Drop)]
+#[derive(Clone, Copy)]
 pub struct Found {
     pub start: usize,
     pub set: [u64; SET_WORDS],

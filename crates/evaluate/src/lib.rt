@@ -1,4 +1,6 @@
 // Which objects a concept selects in a state: document 01, "Meaning". The records must be accepted ones.
+#![tactic(auto)]
+
 ghost use Rattle.std.specs.Prelude.{◌≡◌, false, ◌*◌, ◌≤◌, length};
 ghost use Rattle.records.specs.Finite.{any};
 ghost use Rattle.records.specs.Layout.{concept_layout, entries};

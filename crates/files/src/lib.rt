@@ -1,4 +1,6 @@
 // Records read from files. What a file holds is assumed of the system; how its bytes become words is proved.
+#![tactic(auto)]
+
 ghost use Rattle.std.specs.Prelude.{◌≡◌, ◌+◌, ◌*◌, ◌≤◌, length};
 ghost use Rattle.files.specs.Bytes.{IsCount, Decoded, Loaded};
 

@@ -3,7 +3,7 @@ use Prim.Native.Nat.{ℕ, zero, suc, ◌+◌, ◌*◌, ◌-◌, ◌%◌, ◌^◌
 use native.Mathlib.Omega.{arith}
 use native.Mathlib.Nat.{one-mul}
 use native.Mathlib.Numerals.{add-one}
-use mathlib.Core.Bool.{Bool, true, false, So, cond, not, ◌&&◌, ◌||◌, and_false}
+use mathlib.Core.Bool.{Bool, true, false, So, cond, not, ◌&&◌, ◌||◌, and-false}
 use mathlib.Core.List.{List, [], ◌∷◌}
 use mathlib.Core.Path.{◌≡◌, refl, sym, ap, ap₂, ◌∙◌}
 use lib.Dec.{eqb, ltb}
@@ -167,7 +167,7 @@ module _ (g n : ℕ) (objects : List ℕ) (laid : Laid g n objects) (edges : Lis
 
   pub lacks_asked : So (asks (ground_in g objects edges) P d) → Lacks false
   lacks_asked q =
-      sym (and_false (meets (classes_in (get_or objects d 0)) mask))
+      sym (and-false (meets (classes_in (get_or objects d 0)) mask))
       ∙ tests (meets (classes_in (get_or objects d 0)) mask) true (kid (ground_in g objects edges) (forest_in g n objects) P d) refl q refl
 
   pub lacks_value : (k : ℕ) → So (meets (classes_in (get_or objects d 0)) mask) → asks (ground_in g objects edges) P d ≡ false

@@ -10,7 +10,7 @@ use classes::collect::needs_mask;
 use records::layout::wide;
 
 // An attribute, and the classes that need a value of it.
-#[derive(Drop)]
+#[derive(Clone, Copy)]
 struct Need {
     attribute: usize,
     mask: u32,

@@ -12,14 +12,14 @@ use records::layout::{narrow, wide};
 const PLACES: usize = View::STEPS;
 
 // Where a walk starts: how many objects the ground has, and the one of them that the walk starts from.
-#[derive(Drop)]
+#[derive(Clone, Copy)]
 pub struct Root {
     pub ground: usize,
     pub start: usize,
 }
 
 // A step of the view: where its token stands, its attribute, and whether it goes backward.
-#[derive(Drop)]
+#[derive(Clone, Copy)]
 pub struct Step {
     pub at: usize,
     pub attribute: usize,
@@ -27,7 +27,7 @@ pub struct Step {
 }
 
 // Where the walk stands: how many objects there are, and which made objects are at the present place of the view.
-#[derive(Drop)]
+#[derive(Clone, Copy)]
 pub struct Here {
     pub size: usize,
     pub count: usize,

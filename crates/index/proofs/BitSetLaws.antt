@@ -1,7 +1,7 @@
 -- Sets of numbers as words: the empty set, and a set with a number put in.
 -- Only the word of the number changes, and there only its own bit.
 use Prim.Native.Nat.{ℕ, ◌*◌, ◌/◌, ◌%◌, ◌^◌, ◌≤◌, ◌<◌}
-use mathlib.Core.Bool.{◌||◌, false, or_false}
+use mathlib.Core.Bool.{◌||◌, false, or-false}
 use mathlib.Core.List.{List}
 use mathlib.Core.Path.{◌≡◌, sym, ap, ◌∙◌}
 use native.Mathlib.Nat.{one-mul}
@@ -52,4 +52,4 @@ insert_is ws b h = rw (one_bit b) (record { size = length-set ws (b / word_bits)
         (word_or (get_or ws (b / word_bits) 0) (2 ^ (b % word_bits)) (k % word_bits) ∙ rw (word_one (b % word_bits) (k % word_bits), same k e))
     pick k (no n) =
         rw (get_or-set_other ws (b / word_bits) (k / word_bits) word 0 n, ne_eqb k b (λ q. n (ap (λ (x : ℕ). x / word_bits) q)))
-        (sym (or_false (bit (get_or ws (k / word_bits) 0) (k % word_bits))))
+        (sym (or-false (bit (get_or ws (k / word_bits) 0) (k % word_bits))))

@@ -1,7 +1,7 @@
 -- The index of a state record: what it has after the first facts, and what it tells of the state.
 -- A left word is a kind and an object together, so a bit of the index answers whether some fact is of both.
 use Prim.Native.Nat.{ℕ, ◌+◌, ◌*◌, ◌/◌, ◌%◌, ◌≤◌, ◌<◌}
-use mathlib.Core.Bool.{◌&&◌, or_false}
+use mathlib.Core.Bool.{◌&&◌, or-false}
 use mathlib.Core.List.{List}
 use mathlib.Core.Path.{◌≡◌, sym, ◌∙◌}
 use native.Mathlib.Omega.{arith}
@@ -39,7 +39,7 @@ module _ (w : List ℕ) where
   indexed_past {i = i} {b = b} z e h =
       record {
         size = z.size;
-        bits = λ k l. rw (any_more (left_is w k) i, ← e, ne_eqb b k (λ q. omega arith), z.bits k l) (sym (or_false (any i (left_is w k))));
+        bits = λ k l. rw (any_more (left_is w k) i, ← e, ne_eqb b k (λ q. omega arith), z.bits k l) (sym (or-false (any i (left_is w k))));
       }
 
   pub indexed_all : {seen : List ℕ} {n : ℕ} → Indexed w seen n → n ≡ entries state_layout w → Indexes w seen

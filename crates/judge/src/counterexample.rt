@@ -16,7 +16,7 @@ use records::schema::{SchemaAnswer, Signature, axioms};
 use records::state::{StateAnswer, objects};
 use rows::sizes::SET_WORDS;
 
-#[derive(Drop)]
+#[derive(Clone, Copy)]
 pub enum CounterexampleAnswer {
     No,
     // The lowest such object.

@@ -7,7 +7,7 @@ use check_state::check_state;
 use records::schema::{SchemaAnswer, axioms};
 use records::state::StateAnswer;
 
-#[derive(Drop)]
+#[derive(Clone, Copy)]
 pub enum LegalAnswer {
     Legal,
     // The place of the first broken axiom.

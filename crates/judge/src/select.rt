@@ -12,7 +12,7 @@ use records::schema::SchemaAnswer;
 use records::state::{StateAnswer, objects};
 use rows::sizes::SET_WORDS;
 
-#[derive(Drop)]
+#[derive(Clone, Copy)]
 pub enum SelectAnswer {
     // How many objects are selected.
     Selected(usize),

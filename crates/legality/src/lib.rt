@@ -1,5 +1,7 @@
 // The first broken axiom of an accepted state under an accepted schema, by its place in the schema record.
 // For each axiom one pass over the objects or over the facts of its attribute; the first that breaks it ends the search.
+#![tactic(auto)]
+
 ghost use Rattle.std.specs.Prelude.{◌≡◌};
 ghost use Rattle.records.specs.Executable.{first_broken};
 ghost use Rattle.records.specs.SchemaRecord.{schema_of};

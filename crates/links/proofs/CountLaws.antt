@@ -1,7 +1,7 @@
 -- One pass over the facts of a kind: the links so far, and the counts so far for each second object. Facts before the row of the
 -- kind and after it are no links.
 use Prim.Native.Nat.{ℕ, ◌+◌, ◌≤◌, ◌<◌}
-use mathlib.Core.Bool.{Bool, So, ◌&&◌, and-true, and_false}
+use mathlib.Core.Bool.{Bool, So, ◌&&◌, and-true, and-false}
 use mathlib.Core.List.{List}
 use mathlib.Core.Path.{◌≡◌, sym, ◌∙◌}
 use native.Mathlib.Decide.{ℕ_discrete}
@@ -72,7 +72,7 @@ module _ (w : List ℕ) (k : ℕ) (chosen : List ℕ) where
       pick e l (no n) =
           rw (get_or-set_other counts o e (get_or counts o 0 + bool_byte b) 0 n, add-one)
           (z.each e l
-          ∙ sym (count_still (to_second e) i (rw (ne_eqb (right_at state_layout w i) e (λ r. n (sym r ∙ sym q))) (and_false (link_at w k chosen i)))))
+          ∙ sym (count_still (to_second e) i (rw (ne_eqb (right_at state_layout w i) e (λ r. n (sym r ∙ sym q))) (and-false (link_at w k chosen i)))))
 
   pub tallied_all : {to i : ℕ} {counts : List ℕ} → Tallied w k chosen i counts → KindParts w (k + 1) to to → to ≤ i → i ≤ entries state_layout w
       → Tallied w k chosen (entries state_layout w) counts

@@ -1,5 +1,7 @@
 // Links: the pairs of an attribute whose first object a concept selects, counted from both ends. The season sheet goes by first
 // object, the strap room by second object.
+#![tactic(auto)]
+
 ghost use Rattle.std.specs.Prelude.{◌≡◌, [], ◌∷◌};
 ghost use Rattle.records.specs.ConceptRecord.{concept_of};
 ghost use Rattle.records.specs.StateRecord.{state_of};
@@ -17,7 +19,7 @@ use records::state::{ATTRIBUTE_KINDS, objects};
 
 mod counts;
 
-#[derive(Drop)]
+#[derive(Clone, Copy)]
 pub enum LinksAnswer {
     // How many links there are.
     Counted(usize),
@@ -26,7 +28,7 @@ pub enum LinksAnswer {
 }
 
 // What both counts check before they begin.
-#[derive(Drop)]
+#[derive(Clone, Copy)]
 enum Checked {
     Accepted(Signature),
     Refused(u16),

@@ -1,6 +1,6 @@
 -- What the loops over the rows of relations keep: rows cleared, the identity, a step's facts, and what two relations share.
 use Prim.Native.Nat.{ℕ, ◌+◌, ◌*◌, ◌/◌, ◌%◌, ◌≤◌, ◌<◌}
-use mathlib.Core.Bool.{Bool, false, So, not, ◌&&◌, ◌||◌, and_false, or_false}
+use mathlib.Core.Bool.{Bool, false, So, not, ◌&&◌, ◌||◌, and-false, or-false}
 use mathlib.Core.List.{List}
 use mathlib.Core.Logic.{◌⊎◌, inl, inr, ⊎_elim}
 use mathlib.Core.Path.{◌≡◌, refl, sym, ap, ap₂, ◌∙◌}
@@ -79,7 +79,7 @@ module _ {n : ℕ} {b : Bases} where
       record {
         size = h.size ∙ z.size;
         bits = λ t o l m. h.bits ((b.rel + t) * b.blocks * block_bits + o) ∙ rw (z.bits t o l m) (test_same _ _ (there t o m) (back t o));
-        kept = λ k o out m. h.bits (k * b.blocks * block_bits + o) ∙ rw (ne_eqb (k * b.blocks * block_bits + o) place (λ q. outside k out (cell_one b.blocks m (omega arith) q))) (or_false (cell b.blocks vs k o)) ∙ z.kept k o out m;
+        kept = λ k o out m. h.bits (k * b.blocks * block_bits + o) ∙ rw (ne_eqb (k * b.blocks * block_bits + o) place (λ q. outside k out (cell_one b.blocks m (omega arith) q))) (or-false (cell b.blocks vs k o)) ∙ z.kept k o out m;
       }
     where
       place : ℕ
@@ -181,7 +181,7 @@ module _ {w : List ℕ} {e : Ends} {set : List ℕ} {b : Bases} where
   followed_outside {i} {g} {ws} t-is h =
       record {
         size = refl;
-        bits = λ k o l. rw (← t-is, h) (sym (or_false (cell b.blocks ws k o)));
+        bits = λ k o l. rw (← t-is, h) (sym (or-false (cell b.blocks ws k o)));
       }
 
 module _ {w : List ℕ} {x : Step} {landings : List ℕ} {a : ℕ} {b : Bases} where
@@ -207,7 +207,7 @@ module _ {w : List ℕ} {x : Step} {landings : List ℕ} {a : ℕ} {b : Bases} w
           eqb_same (b.rel + t) (b.rel + target_at w x i) t (target_at w x i) (λ q. omega arith) (λ q. omega arith),
           z.kept (b.spare + origin_at w x i) o (⊎_elim (λ p. inr (omega (arith, p, origin))) (λ p. inl (omega (arith, p, origin))) room.apart) m,
         );
-        kept = λ k o out m. carried k o m ∙ rw (ne_eqb k (b.rel + target_at w x i) (λ q. ⊎_elim (λ l. omega (arith, q, l, target)) (λ l. omega (arith, q, l, target)) out), and_false (lands w x landings a i)) (or_false (cell b.blocks ws k o)) ∙ z.kept k o out m;
+        kept = λ k o out m. carried k o m ∙ rw (ne_eqb k (b.rel + target_at w x i) (λ q. ⊎_elim (λ l. omega (arith, q, l, target)) (λ l. omega (arith, q, l, target)) out), and-false (lands w x landings a i)) (or-false (cell b.blocks ws k o)) ∙ z.kept k o out m;
       }
     where
       j : i < entries state_layout w

@@ -1,6 +1,6 @@
 -- A step by the facts of its kind, from the end of a path backward: the set of the objects from which it leads into a set.
 use Prim.Native.Nat.{ℕ, ◌+◌, ◌^◌, ◌≤◌, ◌<◌}
-use mathlib.Core.Bool.{Bool, true, false, So, not, ◌&&◌, ◌||◌, or_false, and_false}
+use mathlib.Core.Bool.{Bool, true, false, So, not, ◌&&◌, ◌||◌, or-false, and-false}
 use mathlib.Core.List.{List}
 use mathlib.Core.Path.{◌≡◌, refl, sym, ap₂, ◌∙◌}
 use native.Mathlib.Nat.{mod-eq_of_lt}
@@ -131,7 +131,7 @@ module _ {w : List ℕ} {e : Ends} {into : List ℕ} {i c : ℕ} {ws : List ℕ}
   led_on t-is h n = record { size = n.size; bits = λ o. n.bits o ∙ rw (← t-is, ← o_is, h) }
 
   pub led_off : {g : ℕ} → g ≡ object_in w e.targets i → bit_at into g ≡ false → Led w e into ws i ws
-  led_off t-is h = record { size = refl; bits = λ o. rw (← t-is, h) (sym (or_false (bit_at ws o))) }
+  led_off t-is h = record { size = refl; bits = λ o. rw (← t-is, h) (sym (or-false (bit_at ws o))) }
 
   -- what is in already stays
   pub led_already : So (bit_at ws c) → Led w e into ws i ws
@@ -140,7 +140,7 @@ module _ {w : List ℕ} {e : Ends} {into : List ℕ} {i c : ℕ} {ws : List ℕ}
       pick : (o : ℕ) → Dec (o ≡ c) → bit_at ws o ≡ (bit_at ws o || bit_at into (object_in w e.targets i) && eqb o (object_in w e.origins i))
       pick o (yes q) = rw (q, h)
       pick o (no n) =
-          rw (← o_is, ne_eqb o c n, and_false (bit_at into (object_in w e.targets i))) (sym (or_false (bit_at ws o)))
+          rw (← o_is, ne_eqb o c n, and-false (bit_at into (object_in w e.targets i))) (sym (or-false (bit_at ws o)))
 
 -- A fact leads a step from one end of its pair to the other.
 

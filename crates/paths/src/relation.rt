@@ -20,7 +20,7 @@ use rows::sets::shared_row;
 use rows::sizes::{BLOCK_BITS, BLOCK_WORDS, SET_WORDS};
 
 // Where the rows of a relation begin, and those of a spare one, counted in rows of so many blocks.
-#[derive(Drop)]
+#[derive(Clone, Copy)]
 pub struct Bases {
     pub rel: usize,
     pub spare: usize,

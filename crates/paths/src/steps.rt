@@ -8,7 +8,7 @@ use records::state::{ATTRIBUTE_KINDS, FACT_KINDS, OBJECT_PART, facts, state_layo
 use records::token::{Token, token_at};
 
 // The facts that a step follows, and which way.
-#[derive(Drop)]
+#[derive(Clone, Copy)]
 pub struct Step {
     pub kind: usize,
     pub backward: bool,
@@ -43,7 +43,7 @@ pub fn step_at(words: &[u16], at: usize) -> Step
 }
 
 // Where the words of a step's origins begin, and those of its targets.
-#[derive(Drop)]
+#[derive(Clone, Copy)]
 pub struct Ends {
     pub origins: usize,
     pub targets: usize,

@@ -1,4 +1,6 @@
 // A concept's tokens, read from the right: where an item starts, and the number of a step. And which marks it uses.
+#![tactic(auto)]
+
 ghost use Rattle.std.specs.Prelude.{◌≡◌, ◌<◌, ◌^◌};
 ghost use Rattle.records.specs.Finite.{set_of};
 ghost use Rattle.records.specs.Layout.{max_marks};

@@ -1,5 +1,7 @@
 // Runs the checks over the cases of data/cases.bin and prints a line for each: its place, the record's role, and the
 // refusal's number, 0 if it is accepted. tests/record_edges.py has the cases and what document 01 says of each.
+#![tactic(auto)]
+
 use check_concept::{check_plain, check_query, check_view};
 use check_schema::check_schema;
 use check_state::check_state;

@@ -4,7 +4,7 @@ ghost use Rattle.records.specs.ConceptRefusal.{concept_number};
 
 use crate::named::Named;
 
-#[derive(Drop)]
+#[derive(Clone, Copy)]
 pub enum CheckAnswer {
     Accepted(Named),
     // The number of the first refusal that applies.
@@ -13,7 +13,7 @@ pub enum CheckAnswer {
 
 // The roles of a concept, with the most steps that each may have and the set of marks that it allows.
 // What is selected, or has its links counted.
-#[derive(Drop)]
+#[derive(Clone, Copy)]
 pub struct Plain;
 
 impl Plain {
@@ -23,7 +23,7 @@ impl Plain {
 }
 
 // What is decided on, or has a counterexample.
-#[derive(Drop)]
+#[derive(Clone, Copy)]
 pub struct Query;
 
 impl Query {
@@ -32,7 +32,7 @@ impl Query {
     pub const MARKS: u32 = 15;
 }
 
-#[derive(Drop)]
+#[derive(Clone, Copy)]
 pub struct View;
 
 impl View {
@@ -41,7 +41,7 @@ impl View {
     pub const MARKS: u32 = 0;
 }
 
-#[derive(Drop)]
+#[derive(Clone, Copy)]
 pub enum ConceptAnswer {
     // With what the concept names.
     Accepted(Named),

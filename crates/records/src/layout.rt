@@ -5,7 +5,7 @@ ghost use Rattle.records.specs.Layout.{entries as entries_of, left_at, right_at}
 ghost use Rattle.records.specs.Shape.{misshapen as misshapen_in};
 
 // How many size words come first, and which of them, from 0, counts the entries.
-#[derive(Drop)]
+#[derive(Clone, Copy)]
 pub struct Layout {
     pub sizes: usize,
     pub counter: usize,

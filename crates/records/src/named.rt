@@ -2,7 +2,7 @@
 ghost use Rattle.std.specs.Prelude.{◌≡◌, ◌≤◌, eqb};
 ghost use Rattle.records.specs.Finite.{set_of};
 
-#[derive(Drop)]
+#[derive(Clone, Copy)]
 pub struct Named {
     pub classes: u32,
     pub attributes: u32,

@@ -23,7 +23,7 @@ pub const SCHEMA_SIZES: usize = 5;
 pub const BYTE_PART: usize = 256;
 
 // How many classes, attributes and constants are declared, each numbered from 0, and which marks may be named.
-#[derive(Drop)]
+#[derive(Clone, Copy)]
 pub struct Signature {
     pub classes: usize,
     pub attributes: usize,
@@ -35,7 +35,7 @@ pub struct Signature {
 }
 
 // The five kinds of axiom, in the paper's order.
-#[derive(Drop)]
+#[derive(Clone, Copy)]
 pub enum Axiom {
     // class A, class B
     Subclass(usize, usize),
@@ -49,7 +49,7 @@ pub enum Axiom {
     Relates(usize, usize, usize),
 }
 
-#[derive(Drop)]
+#[derive(Clone, Copy)]
 pub enum SchemaAnswer {
     Accepted(Signature),
     BadShape,

@@ -88,7 +88,7 @@ pub fn is_class_fact(words: &[u16], i: usize) -> bool
     kind_at(words, i) < ATTRIBUTE_KINDS
 }
 
-#[derive(Drop)]
+#[derive(Clone, Copy)]
 pub enum StateAnswer {
     Accepted,
     BadShape,

@@ -13,7 +13,7 @@ pub const MAX_TOKENS: usize = 64;
 pub const CONCEPT_SIZES: usize = 2;
 
 // The ten sorts of token, in the paper's order.
-#[derive(Drop)]
+#[derive(Clone, Copy)]
 pub enum Token {
     Class(usize),
     Everything,

@@ -1,6 +1,6 @@
 -- Rows of blocks. Two rows stand apart, so that a bit's place tells its row; a row is put into another block by block.
 use Prim.Native.Nat.{ℕ, ◌+◌, ◌*◌, ◌/◌, ◌%◌, ◌≤◌, ◌<◌}
-use mathlib.Core.Bool.{Bool, ◌&&◌, ◌||◌, or_false, and_false, and-true}
+use mathlib.Core.Bool.{Bool, ◌&&◌, ◌||◌, or-false, and-false, and-true}
 use mathlib.Core.List.{List}
 use mathlib.Core.Logic.{◌⊎◌, inl, inr, ⊎_elim}
 use mathlib.Core.Path.{◌≡◌, refl, sym, ap, ap₂, ◌∙◌}
@@ -80,7 +80,7 @@ block_merged {ws} p q {i} {j} a b h = record { size = z.size; bits = λ m o l. p
         (word_or _ _ (o % word_bits))
     pick m o l (no n) =
         rw (ne_eqb m p n, block_word vs m o, block_word ws m o, z.kept (m * block_words + o / word_bits) (λ i m q. n (omega arith)))
-        (sym (or_false _))
+        (sym (or-false _))
 
 -- A row put into another: what a turn reads is still as it was.
 
@@ -93,7 +93,7 @@ module _ {k : ℕ} {ws : List ℕ} {r s : ℕ} where
   merging_none =
       record {
         size = refl;
-        bits = λ t o l. sym (rw (le-ltb o 0 (omega arith), and_false (eqb t r)) (or_false (cell k ws t o)));
+        bits = λ t o l. sym (rw (le-ltb o 0 (omega arith), and-false (eqb t r)) (or-false (cell k ws t o)));
       }
 
   pub merging_more : {c : ℕ} {vs us : List ℕ} → Merging k ws r s c vs → c < k → BlockMerged vs (r * k + c) (s * k + c) us → Merging k ws r s (c + 1) us
@@ -111,22 +111,22 @@ module _ {k : ℕ} {ws : List ℕ} {r s : ℕ} where
       read : (o : ℕ) → o < k * block_bits → o / block_bits ≡ c → block_bit vs (s * k + c) (o % block_bits) ≡ cell k ws s o
       read o l e =
           ap (bit_at vs) (omega arith) ∙ z.bits s o l
-          ∙ rw (le-ltb o (c * block_bits) (omega arith), and_false (eqb s r)) (or_false (cell k ws s o))
+          ∙ rw (le-ltb o (c * block_bits) (omega arith), and-false (eqb s r)) (or-false (cell k ws s o))
 
       pick : (t o : ℕ) → o < k * block_bits → Dec (t ≡ r) → Dec (o / block_bits ≡ c)
           → ((cell k ws t o || (eqb t r && ltb o (c * block_bits)) && cell k ws s o) || here t o && block_bit vs (s * k + c) (o % block_bits)) ≡ (cell k ws t o || (eqb t r && ltb o ((c + 1) * block_bits)) && cell k ws s o)
       pick t o l (yes e) (yes d) =
           rw (eq-eqb t r e, le-ltb o (c * block_bits) (omega arith), lt-ltb o ((c + 1) * block_bits) (omega arith), eq-eqb (t * k + o / block_bits) (r * k + c) (ap₂ (λ (x y : ℕ). x * k + y) e d), read o l d)
-          (ap (λ (b : Bool). b || cell k ws s o) (or_false (cell k ws t o)))
+          (ap (λ (b : Bool). b || cell k ws s o) (or-false (cell k ws t o)))
       pick t o l (yes e) (no d) =
           rw (ne_eqb (t * k + o / block_bits) (r * k + c) (λ q. d (omega (arith, ap (λ (x : ℕ). x * k) e, q))), same (dec_lt o (c * block_bits)))
-          (or_false _)
+          (or-false _)
         where
           same : Dec (o < c * block_bits) → ltb o (c * block_bits) ≡ ltb o ((c + 1) * block_bits)
           same (yes m) = lt-ltb o (c * block_bits) m ∙ sym (lt-ltb o ((c + 1) * block_bits) (omega arith))
           same (no m) = le-ltb o (c * block_bits) (omega arith) ∙ sym (le-ltb o ((c + 1) * block_bits) (omega arith))
       pick t o l (no n) d =
-          rw (ne_eqb t r n, ne_eqb (t * k + o / block_bits) (r * k + c) (λ q. n (row_one k (omega arith) room q))) (or_false _)
+          rw (ne_eqb t r n, ne_eqb (t * k + o / block_bits) (r * k + c) (λ q. n (row_one k (omega arith) room q))) (or-false _)
 
   pub merging_all : {c : ℕ} {vs : List ℕ} → Merging k ws r s c vs → k ≤ c → Merged k ws r s vs
   merging_all {c} z l =
@@ -161,7 +161,7 @@ joined_of {ws} {vs} {r} {set} z = record { size = z.size; bits = λ t o l. pick 
         (word_or _ _ (o % word_bits))
     pick t o l (no n) =
         rw (whole_row vs t o, whole_row ws t o, ne_eqb t r n, row_word vs t o, row_word ws t o, z.kept (t * set_words + o / word_bits) (λ i m q. n (omega arith)))
-        (sym (or_false _))
+        (sym (or-false _))
 
 pub merged_by : {ws vs set : List ℕ} {r s : ℕ} → SharedRow ws ws s set → Joined ws r set vs → Merged set_blocks ws r s vs
 merged_by {ws} {vs} {set} {r} {s} h z =

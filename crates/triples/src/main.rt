@@ -1,5 +1,7 @@
 // Decides the triples of data/triples.bin and prints a line for each: its place, the verdict, and of an open one what the
 // counterexample check says of the state. tests/triples.py has the triples and what the papers say of each.
+#![tactic(auto)]
+
 use decide::{DecideAnswer, decide};
 use judge::counterexample::{CounterexampleAnswer, counterexample};
 use records::layout::word;

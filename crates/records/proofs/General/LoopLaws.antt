@@ -3,7 +3,7 @@
 -- measure is bounded, settling ends at a fixed point, and the number of rounds allowed does not matter.
 use Prim.Native.Nat.{ℕ, zero, suc, ◌+◌, ◌≤◌, ◌<◌}
 use native.Mathlib.Omega.{arith}
-use mathlib.Core.Bool.{Bool, true, false, ◌||◌, or_assoc, or_false}
+use mathlib.Core.Bool.{Bool, true, false, ◌||◌, or_assoc, or-false}
 use mathlib.Core.Logic.{◌⊎◌, inl, inr, ⊎_elim}
 use mathlib.Core.Path.{◌≡◌, refl, sym, ap, ◌∙◌}
 use mathlib.Core.List.{List, [], ◌∷◌, ◌++◌, map}
@@ -36,7 +36,7 @@ pub any_next : {A : Type 0} (test : A → Bool) (l : List A) (i : ℕ) (d : A) �
 unfolding any_of
 any_next test l i d h =
     ap (any_of test) (take-suc l i d h) ∙ any_append test (take i l) (get_or l i d ∷ [])
-    ∙ ap (λ (b : Bool). any_of test (take i l) || b) (or_false (test (get_or l i d)))
+    ∙ ap (λ (b : Bool). any_of test (take i l) || b) (or-false (test (get_or l i d)))
 
 pub any_map : {A : Type 0} (test : A → Bool) (f : ℕ → A) (l : List ℕ) → any_of test (map f l) ≡ any_of (λ w. test (f w)) l
 unfolding any_of
