@@ -38,14 +38,9 @@ mark_iff k Reached = (λ e. absurd (false≢true e), λ q. cc)
 mark_iff k Common = (λ e. absurd (false≢true e), λ q. cc)
 mark_iff k (Mark j) = (λ e. ap Mark (sym (eqb-true k j e)), λ q. eq-eqb k j cc)
 
--- the places of the other sorts in the enum
-abbrev no_mark_tags : List ℕ
-no_mark_tags = 0 ∷ 1 ∷ 2 ∷ 3 ∷ 4 ∷ 5 ∷ 6 ∷ 7 ∷ 8 ∷ []
-
-pub no_mark : (t : Token) → OneOf no_mark_tags (tag_of the_type t) → (k : ℕ) → has_mark k t ≡ false
-no_mark t h k =
-    false_of (has_mark k t) λ e.
-    miss no_mark_tags 9 tt (subst (λ (u : Token). OneOf no_mark_tags (tag_of the_type u)) ((mark_iff k t).0 e) h)
+-- a token that is no mark has none
+pub no_mark : (t : Token) → ((x : ℕ) → t ≡ Mark x → ⊥) → (k : ℕ) → has_mark k t ≡ false
+no_mark t h k = false_of (has_mark k t) λ e. h k ((mark_iff k t).0 e)
 
 -- the marks of the first i tokens, as they are gathered
 abbrev pub marks_before : List ℕ → ℕ → ℕ

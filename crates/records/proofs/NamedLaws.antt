@@ -50,25 +50,13 @@ attribute_iff P Reached = (λ e. absurd (false≢true e), ⊎_elim (λ q. cc) (�
 attribute_iff P Common = (λ e. absurd (false≢true e), ⊎_elim (λ q. cc) (λ q. cc))
 attribute_iff P (Mark k) = (λ e. absurd (false≢true e), ⊎_elim (λ q. cc) (λ q. cc))
 
--- A token of another sort names nothing; the numbers are the places of the sorts in the enum.
+-- A token of another sort names nothing.
 
-abbrev Among : List ℕ → declared.Token → Type 0
-Among tags t = OneOf tags (tag_of Token.the_type t)
+pub no_class : (t : declared.Token) → ((A : ℕ) → t ≡ Class A → ⊥) → (A : ℕ) → has_class A t ≡ false
+no_class t h A = false_of (has_class A t) λ e. h A ((class_iff A t).0 e)
 
-abbrev no_class_tags : List ℕ
-no_class_tags = 1 ∷ 2 ∷ 3 ∷ 4 ∷ 5 ∷ 6 ∷ 7 ∷ 8 ∷ 9 ∷ []
-
-pub no_class : (t : declared.Token) → Among no_class_tags t → (A : ℕ) → has_class A t ≡ false
-no_class t h A = false_of (has_class A t) λ e. miss no_class_tags 0 tt (subst (Among no_class_tags) ((class_iff A t).0 e) h)
-
-abbrev no_attribute_tags : List ℕ
-no_attribute_tags = 0 ∷ 1 ∷ 2 ∷ 3 ∷ 4 ∷ 7 ∷ 8 ∷ 9 ∷ []
-
-pub no_attribute : (t : declared.Token) → Among no_attribute_tags t → (P : ℕ) → has_attribute P t ≡ false
-no_attribute t h P =
-    false_of (has_attribute P t) λ e.
-    ⊎_elim (λ q. miss no_attribute_tags 5 tt (subst (Among no_attribute_tags) q h))
-    (λ q. miss no_attribute_tags 6 tt (subst (Among no_attribute_tags) q h)) ((attribute_iff P t).0 e)
+pub no_attribute : (t : declared.Token) → ((P : ℕ) → t ≡ Forward P → ⊥) → ((P : ℕ) → t ≡ Backward P → ⊥) → (P : ℕ) → has_attribute P t ≡ false
+no_attribute t f b P = false_of (has_attribute P t) λ e. ⊎_elim (f P) (b P) ((attribute_iff P t).0 e)
 
 module _ (schema : List ℕ) (fine : AcceptedSchema schema) (limit marks : ℕ) (w : List ℕ) (ok : AcceptedConcept limit (allowing marks (signature_of schema)) w) where
   class_below : (A : ℕ) → NamesClass w A → A < max_classes

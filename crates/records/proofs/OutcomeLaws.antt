@@ -127,62 +127,56 @@ module _ {A : Type 0} (refused : ℕ → A) (answer : A) where
 
 -- The number of each check.
 
--- the answers' tags: "accepted" is the first
-not_zero : (l : List ℕ) → OneOf (map suc l) 0 → ⊥
-not_zero [] t = t
-not_zero (k ∷ []) t = omega arith
-not_zero (k ∷ j ∷ l) t = ⊎_elim (λ e. omega arith) (not_zero (j ∷ l)) t
+schema_not_accepted : (a : SchemaAnswer) → ((s : Signature) → a ≡ of_schema.Accepted s → ⊥) → eqb (schema_number a) 0 ≡ false
+schema_not_accepted (of_schema.Accepted s) h = absurd (h s refl)
+schema_not_accepted of_schema.BadShape h = refl
+schema_not_accepted of_schema.BadLoose h = refl
+schema_not_accepted of_schema.BadAxiom h = refl
 
-schema_not_accepted : (a : SchemaAnswer) → OneOf (1 ∷ 2 ∷ 3 ∷ []) (tag_of Schema.the_type a) → eqb (schema_number a) 0 ≡ false
-schema_not_accepted (of_schema.Accepted s) t = absurd (not_zero (0 ∷ 1 ∷ 2 ∷ []) t)
-schema_not_accepted of_schema.BadShape t = refl
-schema_not_accepted of_schema.BadLoose t = refl
-schema_not_accepted of_schema.BadAxiom t = refl
+concept_not_accepted : (a : ConceptAnswer) → ((named : Named) → a ≡ of_concept.Accepted named → ⊥) → eqb (concept_number a) 0 ≡ false
+concept_not_accepted (of_concept.Accepted named) h = absurd (h named refl)
+concept_not_accepted of_concept.BadShape h = refl
+concept_not_accepted of_concept.BadToken h = refl
+concept_not_accepted of_concept.BadPile h = refl
+concept_not_accepted of_concept.BadSteps h = refl
 
-concept_not_accepted : (a : ConceptAnswer) → OneOf (1 ∷ 2 ∷ 3 ∷ 4 ∷ []) (tag_of Concept.the_type a) → eqb (concept_number a) 0 ≡ false
-concept_not_accepted (of_concept.Accepted named) t = absurd (not_zero (0 ∷ 1 ∷ 2 ∷ 3 ∷ []) t)
-concept_not_accepted of_concept.BadShape t = refl
-concept_not_accepted of_concept.BadToken t = refl
-concept_not_accepted of_concept.BadPile t = refl
-concept_not_accepted of_concept.BadSteps t = refl
-
-state_not_accepted : (a : StateAnswer) → OneOf (1 ∷ 2 ∷ 3 ∷ 4 ∷ 5 ∷ []) (tag_of State.the_type a) → eqb (state_number a) 0 ≡ false
-state_not_accepted of_state.Accepted t = absurd (not_zero (0 ∷ 1 ∷ 2 ∷ 3 ∷ 4 ∷ []) t)
-state_not_accepted of_state.BadShape t = refl
-state_not_accepted of_state.BadFact t = refl
-state_not_accepted of_state.BadOrder t = refl
-state_not_accepted of_state.BadClassFacts t = refl
-state_not_accepted of_state.BadConstants t = refl
+state_not_accepted : (a : StateAnswer) → (a ≡ of_state.Accepted → ⊥) → eqb (state_number a) 0 ≡ false
+state_not_accepted of_state.Accepted h = absurd (h refl)
+state_not_accepted of_state.BadShape h = refl
+state_not_accepted of_state.BadFact h = refl
+state_not_accepted of_state.BadOrder h = refl
+state_not_accepted of_state.BadClassFacts h = refl
+state_not_accepted of_state.BadConstants h = refl
 
 -- What is returned of a check that does not accept: by the answer's number, the answer, and that it is not "accepted".
 pub concept_refused : (limit : ℕ) (s : Signature) (w : List ℕ) {n : ℕ} {a : ConceptAnswer} → n ≡ concept_number a → a ≡ concept_answer limit s w
-    → OneOf (1 ∷ 2 ∷ 3 ∷ 4 ∷ []) (tag_of Concept.the_type a) → Turned n (concept_number (concept_answer limit s w))
+    → ((named : Named) → a ≡ of_concept.Accepted named → ⊥) → Turned n (concept_number (concept_answer limit s w))
 concept_refused limit s w {a = a} e q t = (e ∙ ap concept_number q, rw q at (concept_not_accepted a t))
 
 -- .. by an entry, which has the signature from the schema's check
 module _ (schema : List ℕ) where
-  pub schema_turned : {n : ℕ} {a : SchemaAnswer} → n ≡ schema_number a → a ≡ schema_answer schema → OneOf (1 ∷ 2 ∷ 3 ∷ []) (tag_of Schema.the_type a)
+  pub schema_turned : {n : ℕ} {a : SchemaAnswer} → n ≡ schema_number a → a ≡ schema_answer schema → ((s : Signature) → a ≡ of_schema.Accepted s → ⊥)
       → Turned n (schema_refusal schema)
   schema_turned {a = a} e q t = (e ∙ ap schema_number q, rw q at (schema_not_accepted a t))
 
   module _ (w : List ℕ) {s : Signature} (z : s ≡ signature_of schema) where
     pub concept_turned : (limit marks : ℕ) {n : ℕ} {a : ConceptAnswer} → n ≡ concept_number a → a ≡ concept_answer limit (allowing marks s) w
-        → OneOf (1 ∷ 2 ∷ 3 ∷ 4 ∷ []) (tag_of Concept.the_type a)
+        → ((named : Named) → a ≡ of_concept.Accepted named → ⊥)
         → Turned n (concept_number (concept_answer limit (allowing marks (signature_of schema)) w))
     concept_turned limit marks e q t = rw z at (concept_refused limit (allowing marks s) w e q t)
 
     -- .. in a role that allows no mark
     pub plain_turned : (limit : ℕ) {n : ℕ} {a : ConceptAnswer} → n ≡ concept_number a → a ≡ concept_answer limit (allowing no_marks s) w
-        → OneOf (1 ∷ 2 ∷ 3 ∷ 4 ∷ []) (tag_of Concept.the_type a) → Turned n (concept_number (concept_answer limit (signature_of schema) w))
+        → ((named : Named) → a ≡ of_concept.Accepted named → ⊥) → Turned n (concept_number (concept_answer limit (signature_of schema) w))
     unfolding signature_of
     plain_turned limit e q t = concept_turned limit no_marks e q t
 
     pub state_turned : {n : ℕ} {a : StateAnswer} → n ≡ state_number a → a ≡ state_answer s w
-        → OneOf (1 ∷ 2 ∷ 3 ∷ 4 ∷ 5 ∷ []) (tag_of State.the_type a) → Turned n (state_refusal schema w)
+        → (a ≡ of_state.Accepted → ⊥) → Turned n (state_refusal schema w)
     state_turned {a = a} e q t = (rw (e, q, z), rw (q, z) at (state_not_accepted a t))
 
     pub choice_turned : (query : List ℕ) {marks n : ℕ} {a : StateAnswer} → marks ≡ used_marks query → n ≡ state_number a → a ≡ state_answer (allowing marks s) w
-        → OneOf (1 ∷ 2 ∷ 3 ∷ 4 ∷ 5 ∷ []) (tag_of State.the_type a) → Turned n (choice_refusal schema query w)
+        → (a ≡ of_state.Accepted → ⊥) → Turned n (choice_refusal schema query w)
     choice_turned query {a = a} u e q t = (rw (e, q, z, u), rw (q, z, u) at (state_not_accepted a t))
 
 pub lent_turned : (needed : ℕ) (lent : List ℕ) → length lent < needed → Turned 11 (lent_refusal needed lent)

@@ -6,3 +6,6 @@ use Rattle.index.proofs.kinds.first_of_kind.Given as goal
 
 abbrev pub invariant-loop-low : goal.invariant-loop-low
 invariant-loop-low l = KindParts l.state l.kind l.low l.high
+
+abbrev pub decreases-loop-low : goal.decreases-loop-low
+decreases-loop-low l = l.high - l.low

@@ -1,0 +1,64 @@
+-- The scan keeps the faults, the order and the names of the facts passed (Kept of StateScanLaws).
+use Rattle.std.proofs.lemmas.Bool.{not_from_true, not_from_false}
+use Prim.Native.Nat.{◌-◌}
+use Rattle.records.proofs.General.FiniteLaws.{any_of_lem}
+use Rattle.check_state.proofs.StateScanLaws.{answer_7, answer_8, answer_9, answer_past_9}
+use Rattle.check_state.proofs.StateScanLaws.{kept_10, kept_8, kept_9, kept_all, kept_more, kept_none}
+use Rattle.records.specs.StateRefusal.{refusal_8}
+use Rattle.check_state.specs.Scan.{sorted_answer}
+use mathlib.Core.Path.{◌∙◌, ap₂, sym}
+use native.Mathlib.Omega.{arith}
+use Rattle.check_state.proofs.check_state.Goals as goal
+
+pub returns-then-bad_shape : goal.returns-then-bad_shape
+returns-then-bad_shape c = answer_7 _ _ (sym c.bad_shape.ensures ∙ c.if-bad_shape.true)
+
+pub loop-i-init : goal.loop-i-init
+loop-i-init c = (omega arith, kept_none _ _)
+
+pub returns-then-faulty_fact : goal.returns-then-faulty_fact
+unfolding refusal_8
+returns-then-faulty_fact c =
+    answer_8 _ _ (sym c.bad_shape.ensures ∙ c.if-bad_shape.false)
+    (rw (← c.facts-n.ensures.value)
+    (any_of_lem _ _ _ c.loop-i-test.true (sym c.faulty_fact.ensures ∙ c.if-faulty_fact.true)))
+
+pub bounds-counts-at : goal.bounds-counts-at
+bounds-counts-at c = c.slot-at.ensures.1
+
+pub overflow_add-counts : goal.overflow_add-counts
+overflow_add-counts c = omega (arith, c.loop-i.invariant.1.small c.slot-at.result, c.loop-i.invariant.0, c.facts-n.ensures.word)
+
+pub bounds-counts-at-in-loop-i : goal.bounds-counts-at-in-loop-i
+bounds-counts-at-in-loop-i c = c.slot-at.ensures.1
+
+pub bounds-named-at : goal.bounds-named-at
+bounds-named-at c = c.slot-at.ensures.1
+
+pub loop-i-preserved : goal.loop-i-preserved
+loop-i-preserved c =  (
+  omega arith,
+  rw (c.follows.ensures, c.object_at.ensures)
+      (kept_more _ _ c.loop-i.invariant.1 (sym c.faulty_fact.ensures ∙ c.if-faulty_fact.false) c.slot-at.result
+      (rw (← c.kind_at.ensures) c.slot-at.ensures.0) c.slot-at.ensures.1),
+)
+
+pub returns-then-not-ascending : goal.returns-then-not-ascending
+returns-then-not-ascending c =
+    let z = kept_all _ _ c.loop-i.invariant.1 c.loop-i.invariant.0 c.loop-i-test.false c.facts-n.ensures.value in
+    answer_9 _ _ (sym c.bad_shape.ensures ∙ c.if-bad_shape.false) (kept_8 _ _ z) (kept_9 _ _ z ∙ (not_from_false _ c.if-not-ascending.true))
+
+pub bad_class_facts-requires : goal.bad_class_facts-requires
+bad_class_facts-requires c =
+    let z = kept_all _ _ c.loop-i.invariant.1 c.loop-i.invariant.0 c.loop-i-test.false c.facts-n.ensures.value in
+    kept_9 _ _ z ∙ (not_from_true _ c.if-not-ascending.false)
+
+pub bad_names-requires : goal.bad_names-requires
+bad_names-requires c = (c.loop-i.invariant.1.counters, c.loop-i.invariant.1.places)
+
+pub returns : goal.returns
+returns c =
+    let z = kept_all _ _ c.loop-i.invariant.1 c.loop-i.invariant.0 c.loop-i-test.false c.facts-n.ensures.value in
+    c.answer.ensures
+    ∙ ap₂ sorted_answer c.bad_class_facts.ensures (c.bad_names.ensures ∙ kept_10 _ _ z)
+    ∙ answer_past_9 _ _ (sym c.bad_shape.ensures ∙ c.if-bad_shape.false) (kept_8 _ _ z) (kept_9 _ _ z ∙ (not_from_true _ c.if-not-ascending.false))
