@@ -4,9 +4,7 @@ use native.Mathlib.Omega.{arith}
 use mathlib.Core.Bool.{Bool}
 use mathlib.Core.List.{List, [], ◌∷◌}
 use mathlib.Core.Path.{◌≡◌, ap, subst}
-use types.Run.{OneOf, miss}
-use denote.Enum.Declared.{tag_of}
-use Rattle.records.specs.contracts.token.Token.{the_type}
+use mathlib.Core.Logic.{◌⊎◌, ⊎_elim}
 use Rattle.records.specs.declared.token.Token.{Token}
 use Rattle.records.specs.declared.token.Token.TheVariants.{Class, Everything, Constant, Both, Empty, Forward, Backward, Reached, Common, Mark}
 use Rattle.records.specs.Layout.{concept_layout, entries, view_steps, max_attributes}
@@ -34,22 +32,17 @@ module _ (schema view : List ℕ) (ok : AcceptedConcept view_steps (signature_of
   step_attribute legal i P back h is =
       step_in_range (direction_of back) (subst TokenInRange is (token_in_range (signature_of schema) (signature_few schema (passes_1 schema legal)) view_steps view ok i h))
 
--- the tokens at which nothing is made, by their places in the enum
-abbrev pub leaf_tags : List ℕ
-leaf_tags = 0 ∷ 1 ∷ 2 ∷ 9 ∷ []
+-- at the token nothing is made
+abbrev pub IsLeaf : Token → Type 0
+IsLeaf t = ((A : ℕ) × (t ≡ Class A)) ⊎ ((t ≡ Everything) ⊎ (((a : ℕ) × (t ≡ Constant a)) ⊎ ((k : ℕ) × (t ≡ Mark k))))
 
 module _ (S : Schema) (G : Ground) (w : List ℕ) (e s : ℕ) (l : List ℕ) (T : Forest) where
   walk_as : (C : Concept) → concept_at w (suc e) ≡ C → walk S G (concept_at w (suc e)) s l T ≡ walk S G C s l T
   walk_as C q = ap (λ (D : Concept). walk S G D s l T) q
 
-  pub leaf_walk : (t : Token) → OneOf leaf_tags (tag_of the_type t) → Reads w e t → walk S G (concept_at w (suc e)) s l T ≡ T
-  leaf_walk (Class A) k r = walk_as (class A) r.0
-  leaf_walk Everything k r = walk_as everything r.0
-  leaf_walk (Constant a) k r = walk_as (constant a) r.0
-  leaf_walk Both k r = absurd (miss leaf_tags 3 tt k)
-  leaf_walk Empty k r = absurd r
-  leaf_walk (Forward P) k r = absurd r
-  leaf_walk (Backward P) k r = absurd r
-  leaf_walk Reached k r = absurd (miss leaf_tags 7 tt k)
-  leaf_walk Common k r = absurd (miss leaf_tags 8 tt k)
-  leaf_walk (Mark k) j r = walk_as (mark k) r.0
+  pub leaf_walk : (t : Token) → IsLeaf t → Reads w e t → walk S G (concept_at w (suc e)) s l T ≡ T
+  leaf_walk t k r =
+      ⊎_elim (λ z. walk_as (class z.0) (subst (Reads w e) z.1 r).0)
+      (⊎_elim (λ q. walk_as everything (subst (Reads w e) q r).0)
+      (⊎_elim (λ z. walk_as (constant z.0) (subst (Reads w e) z.1 r).0) (λ z. walk_as (mark z.0) (subst (Reads w e) z.1 r).0)))
+      k

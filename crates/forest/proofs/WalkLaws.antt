@@ -5,9 +5,6 @@ use native.Mathlib.Omega.{arith}
 use mathlib.Core.List.{List, ◌∷◌}
 use mathlib.Core.Path.{◌≡◌, refl, sym, ap, ap₂, subst, ◌∙◌}
 use lib.ListN.{length}
-use types.Run.{OneOf}
-use denote.Enum.Declared.{tag_of}
-use Rattle.records.specs.contracts.token.Token.{the_type}
 use Rattle.records.specs.declared.token.Token.TheVariants.{Both, Empty, Reached, Common}
 use Rattle.records.specs.Concept.{Concept, class, everything, constant, both, reached, common, mark, Path, empty, step}
 use Rattle.records.specs.Layout.{view_steps, max_attributes, max_objects}
@@ -31,7 +28,7 @@ use Rattle.forest.specs.Making.{CanMakeFor}
 use Rattle.forest.specs.Walking.{Walking, walked, trekked, CanWalk, CanTrek, Walked, Trekked}
 use Rattle.forest.proofs.ObjectLaws.{ground_kept}
 use Rattle.forest.proofs.GrowLaws.{grows_then, same_size, grows_self, make_for_more, listed}
-use Rattle.forest.proofs.ViewLaws.{view_short, step_attribute, leaf_tags, leaf_walk}
+use Rattle.forest.proofs.ViewLaws.{view_short, step_attribute, IsLeaf, leaf_walk}
 
 -- nothing is taken back
 module _ (S : Schema) (G : Ground) where
@@ -356,7 +353,7 @@ module _ {schema view edges objects : List ℕ} {root : Root} {e : ℕ} {h : Her
         → Walked schema view edges objects root e h after r
     walk_to {r} {after} y = subst (λ (d : ℕ). Walked schema view edges objects root d h after r) (sym walk_after) y
 
-    pub walk_leaf : OneOf leaf_tags (tag_of the_type (token_at view (e - 1))) → Walked schema view edges objects root e h objects h.size
+    pub walk_leaf : IsLeaf (token_at view (e - 1)) → Walked schema view edges objects root e h objects h.size
     walk_leaf k =
         walk_to
         (grows_self can.walking.ready.kept

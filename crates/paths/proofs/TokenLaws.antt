@@ -2,14 +2,13 @@
 use Prim.Native.Nat.{ℕ, ◌+◌, ◌^◌, ◌≤◌, ◌<◌}
 use mathlib.Core.Bool.{Bool, true, false, So, cond, false≢true}
 use mathlib.Core.List.{List, [], ◌∷◌}
-use mathlib.Core.Path.{◌≡◌, refl}
+use mathlib.Core.Path.{◌≡◌, refl, ap}
 use native.Mathlib.Omega.{arith}
 use native.Mathlib.Nat.{le_refl}
 use borrow.Author.Tests.{ltb-true}
 use lib.Dec.{eqb}
 use lib.ListN.{get_or}
-use types.Run.{OneOf, miss}
-use denote.Enum.Declared.{tag_of}
+use mathlib.Core.Logic.{◌⊎◌, ⊎_elim}
 use mir.Syntax.{w16}
 use mir.Val.{Fits}
 use Rattle.records.specs.declared.schema.Signature.{Signature}
@@ -21,7 +20,6 @@ use Rattle.records.specs.ConceptRecord.{token_of, token_at}
 use Rattle.records.specs.ConceptRefusal.{is_step}
 use Rattle.records.specs.Marks.{allows}
 use Rattle.records.specs.Helpers.Reading.{step_token}
-use Rattle.records.specs.contracts.token.Token.{the_type}
 use Rattle.records.proofs.AcceptedLaws.{token_suits}
 use Rattle.paths.specs.Evaluable.{Evaluable}
 use Rattle.paths.specs.Steps.{along, step_of}
@@ -69,21 +67,21 @@ constant_declared {s} {w} ok i l {a} is = ltb-true a s.constants (rw is at (toke
 pub mark_allowed : {s : Signature} {w v : List ℕ} → Evaluable s w v → (i : ℕ) → i < entries concept_layout w → {k : ℕ} → token_at w i ≡ Mark k → So (allows s k)
 mark_allowed {s} {w} ok i l is = rw is at (token_suits s w ok.tokens i l)
 
--- the tokens that are no steps, by their places in the enum
-abbrev pub other_tags : List ℕ
-other_tags = 0 ∷ 1 ∷ 2 ∷ 3 ∷ 4 ∷ 7 ∷ 8 ∷ 9 ∷ []
+-- the token is no step
+abbrev pub IsNoStep : Token → Type 0
+IsNoStep t =
+    ((A : ℕ) × (t ≡ Class A))
+    ⊎ ((t ≡ Everything) ⊎ (((a : ℕ) × (t ≡ Constant a)) ⊎ ((t ≡ Both) ⊎ ((t ≡ Empty) ⊎ ((t ≡ Reached) ⊎ ((t ≡ Common) ⊎ ((k : ℕ) × (t ≡ Mark k))))))))
 
-pub no_step : (t : Token) → OneOf other_tags (tag_of the_type t) → step_of t ≡ record { kind = fact_kinds; backward = false }
-no_step (Class A) k = refl
-no_step Everything k = refl
-no_step (Constant a) k = refl
-no_step Both k = refl
-no_step Empty k = refl
-no_step (Forward P) k = absurd (miss other_tags 5 tt k)
-no_step (Backward P) k = absurd (miss other_tags 6 tt k)
-no_step Reached k = refl
-no_step Common k = refl
-no_step (Mark j) k = refl
+pub no_step : (t : Token) → IsNoStep t → step_of t ≡ record { kind = fact_kinds; backward = false }
+no_step t =
+    ⊎_elim (λ z. ap step_of z.1)
+    (⊎_elim (λ q. ap step_of q)
+    (⊎_elim (λ z. ap step_of z.1)
+    (⊎_elim (λ q. ap step_of q)
+    (⊎_elim (λ q. ap step_of q)
+    (⊎_elim (λ q. ap step_of q)
+    (⊎_elim (λ q. ap step_of q) (λ z. ap step_of z.1)))))))
 
 -- a step goes along an attribute, one way or the other
 pub step_along : (t : Token) → So (is_step t) → (back : Bool) × (P : ℕ) × (t ≡ step_token (direction_of back) P) × (step_of t ≡ along back P)

@@ -4,11 +4,9 @@ use Prim.Native.Nat.{ℕ, zero, suc, ◌+◌, ◌-◌, ◌<◌}
 use native.Mathlib.Omega.{arith}
 use mathlib.Core.Bool.{So, false≢true}
 use mathlib.Core.List.{List, [], ◌∷◌}
+use mathlib.Core.Logic.{◌⊎◌, ⊎_elim}
 use mathlib.Core.Option.{none, some}
 use mathlib.Core.Path.{◌≡◌, refl, sym, ap, ap₂, subst, ◌∙◌}
-use types.Run.{OneOf, miss}
-use denote.Enum.Declared.{tag_of}
-use Rattle.records.specs.contracts.token.Token.{the_type}
 use Rattle.records.specs.declared.token.Token.{Token}
 use Rattle.records.specs.declared.token.Token.TheVariants.{Class, Everything, Constant, Both, Empty, Forward, Backward, Reached, Common, Mark}
 use Rattle.records.specs.Concept.{Direction, forward, backward, Concept, class, everything, constant, both, reached, common, mark, Path, empty, step}
@@ -19,12 +17,13 @@ use Rattle.records.specs.Helpers.Reading.{top_path, start_of, concept_at, path_a
 use Rattle.records.proofs.PileLaws.{last_token, Ends, at_suc, ends_token, ends_none, ends_one, ends_two, pile_empty, start_pile}
 use Rattle.records.proofs.SpellingLaws.{Spells, ends_spells, path_spells, concept_number_lem, path_number}
 
--- the tokens that end a concept, and those that end a path, by their places in the enum
-abbrev pub concept_tags : List ℕ
-concept_tags = 0 ∷ 1 ∷ 2 ∷ 3 ∷ 7 ∷ 8 ∷ 9 ∷ []
+-- the token ends a concept, or it ends a path
+abbrev pub EndsConcept : Token → Type 0
+EndsConcept t =
+    ((A : ℕ) × (t ≡ Class A)) ⊎ ((t ≡ Everything) ⊎ (((a : ℕ) × (t ≡ Constant a)) ⊎ ((t ≡ Both) ⊎ ((t ≡ Reached) ⊎ ((t ≡ Common) ⊎ ((k : ℕ) × (t ≡ Mark k)))))))
 
-abbrev pub path_tags : List ℕ
-path_tags = 4 ∷ 5 ∷ 6 ∷ []
+abbrev pub EndsPath : Token → Type 0
+EndsPath t = (t ≡ Empty) ⊎ (((P : ℕ) × (t ≡ Forward P)) ⊎ ((P : ℕ) × (t ≡ Backward P)))
 
 module _ (w : List ℕ) where
   ends_concept : (C : Concept) (e : ℕ) → Ends w (concept C) e → HasConcept w e × (concept_at w e ≡ C)
@@ -150,35 +149,17 @@ module _ (w : List ℕ) where
   path_token e {t} h q = path_reads (e - 1) t (path_suc e h) q
 
   -- a path's tokens end no concept, and a concept's end no path
-  pub concept_not_path : (e : ℕ) → HasConcept w e → OneOf path_tags (tag_of the_type (token_at w (e - 1))) → ⊥
-  concept_not_path e h k = go (token_at w (e - 1)) k (concept_token e h refl)
-    where
-      go : (t : Token) → OneOf path_tags (tag_of the_type t) → Reads (e - 1) t → ⊥
-      go (Class A) k r = miss path_tags 0 tt k
-      go Everything k r = miss path_tags 1 tt k
-      go (Constant a) k r = miss path_tags 2 tt k
-      go Both k r = miss path_tags 3 tt k
-      go Empty k r = r
-      go (Forward P) k r = r
-      go (Backward P) k r = r
-      go Reached k r = miss path_tags 7 tt k
-      go Common k r = miss path_tags 8 tt k
-      go (Mark m) k r = miss path_tags 9 tt k
+  pub concept_not_path : (e : ℕ) → HasConcept w e → EndsPath (token_at w (e - 1)) → ⊥
+  concept_not_path e h = ⊎_elim (λ q. concept_token e h q) (⊎_elim (λ z. concept_token e h z.1) (λ z. concept_token e h z.1))
 
-  pub path_not_concept : (e : ℕ) → HasPath w e → OneOf concept_tags (tag_of the_type (token_at w (e - 1))) → ⊥
-  path_not_concept e h k = go (token_at w (e - 1)) k (path_token e h refl)
-    where
-      go : (t : Token) → OneOf concept_tags (tag_of the_type t) → ReadsPath (e - 1) t → ⊥
-      go (Class A) k r = r
-      go Everything k r = r
-      go (Constant a) k r = r
-      go Both k r = r
-      go Empty k r = miss concept_tags 4 tt k
-      go (Forward P) k r = miss concept_tags 5 tt k
-      go (Backward P) k r = miss concept_tags 6 tt k
-      go Reached k r = r
-      go Common k r = r
-      go (Mark m) k r = r
+  pub path_not_concept : (e : ℕ) → HasPath w e → EndsConcept (token_at w (e - 1)) → ⊥
+  path_not_concept e h =
+      ⊎_elim (λ z. path_token e h z.1)
+      (⊎_elim (λ q. path_token e h q)
+      (⊎_elim (λ z. path_token e h z.1)
+      (⊎_elim (λ q. path_token e h q)
+      (⊎_elim (λ q. path_token e h q)
+      (⊎_elim (λ q. path_token e h q) (λ z. path_token e h z.1))))))
 
   -- the tokens from its start spell it
   pub concept_spells : (e : ℕ) → HasConcept w e → Spells w (concept_at w e) (start_of w e 1) e
