@@ -42,7 +42,7 @@ module _ (S : Schema) (G : Ground) (w : List ℕ) (e s : ℕ) (l : List ℕ) (T 
 
   pub leaf_walk : (t : Token) → IsLeaf t → Reads w e t → walk S G (concept_at w (suc e)) s l T ≡ T
   leaf_walk t k r =
-      ⊎_elim (λ z. walk_as (class z.0) (subst (Reads w e) z.1 r).0)
-      (⊎_elim (λ q. walk_as everything (subst (Reads w e) q r).0)
-      (⊎_elim (λ z. walk_as (constant z.0) (subst (Reads w e) z.1 r).0) (λ z. walk_as (mark z.0) (subst (Reads w e) z.1 r).0)))
+      ⊎_elim (λ z. walk_as (class z.0) (subst (Reads w e) {y = Class z.0} z.1 r).0)
+      (⊎_elim (λ q. walk_as everything (subst (Reads w e) {y = Everything} q r).0)
+      (⊎_elim (λ z. walk_as (constant z.0) (subst (Reads w e) {y = Constant z.0} z.1 r).0) (λ z. walk_as (mark z.0) (subst (Reads w e) {y = Mark z.0} z.1 r).0)))
       k
