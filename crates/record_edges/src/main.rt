@@ -28,44 +28,39 @@ fn report(rt: &impl Print, role: &[u8], number: u16) -> io::Result<()> {
 
 // Checks one record in its role. An accepted schema is the one under which the next records stand, and an accepted query the one
 // whose marks the next states have.
-fn check(
-    rt: &impl Print,
-    role: u16,
-    s: Signature,
-    record: &[u16],
-) -> io::Result<Signature> {
-    match role {
+fn check(rt: &impl Print, role: u16, s: Signature, record: &[u16]) -> io::Result<Signature> {
+    Ok(match role {
         1 => {
             let answer = check_schema(record);
             report(rt, b" schema ", answer.number())?;
             if let SchemaAnswer::Accepted(next) = answer {
-                Ok(next)
+                next
             } else {
-                Ok(s)
+                s
             }
         }
         2 => {
             let answer = check_query(s, record);
             report(rt, b" query ", answer.number())?;
             if let ConceptAnswer::Accepted(_) = answer {
-                Ok(allow(s, used(record)))
+                allow(s, used(record))
             } else {
-                Ok(s)
+                s
             }
         }
         3 => {
             report(rt, b" view ", check_view(s, record).number())?;
-            Ok(s)
+            s
         }
         4 => {
             report(rt, b" concept ", check_plain(s, record).number())?;
-            Ok(s)
+            s
         }
         _ => {
             report(rt, b" state ", check_state(s, record).number())?;
-            Ok(s)
+            s
         }
-    }
+    })
 }
 
 // A case is its role, its length and its words.
@@ -99,11 +94,7 @@ fn run(rt: &impl Print, words: &[u16]) -> io::Result<()> {
     Ok(())
 }
 
-fn load_and_run(
-    rt: &(impl Files + Print),
-    bytes: &mut [u8],
-    words: &mut [u16],
-) -> io::Result<()> {
+fn load_and_run(rt: &(impl Files + Print), bytes: &mut [u8], words: &mut [u16]) -> io::Result<()> {
     let n = files::load(rt, b"cases.bin", bytes, words);
     run(rt, &words[..n])
 }
