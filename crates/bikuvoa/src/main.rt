@@ -1,6 +1,8 @@
 // Decides the triple in schema.bin, query.bin and view.bin of the folder it is run in, and prints the answer.
 #![tactic(auto)]
 
-fn main() {
-    decide_files::run_folder();
+use std::io;
+
+fn main(rt: HostRuntime) -> io::Result<()> {
+    decide_files::run_folder(&rt)
 }

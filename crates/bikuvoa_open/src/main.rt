@@ -1,6 +1,8 @@
 // The program bikuvoa once more, for a stored run with an open answer and its facts.
 #![tactic(auto)]
 
-fn main() {
-    decide_files::run_folder();
+use std::io;
+
+fn main(rt: HostRuntime) -> io::Result<()> {
+    decide_files::run_folder(&rt)
 }

@@ -12,6 +12,8 @@ use check_catalogue::{MAX_VIEWS, views};
 use decide::holds::HoldsAnswer;
 use records::schema::{MAX_AXIOMS, SCHEMA_SIZES};
 use records::token::{CONCEPT_SIZES, MAX_TOKENS};
+use std::io;
+use std::rt::Files;
 
 // The most words of an accepted record. A longer file gives no words.
 const SCHEMA_WORDS: usize = SCHEMA_SIZES + 2 * MAX_AXIOMS;
@@ -21,83 +23,88 @@ const CATALOGUE_WORDS: usize = 1 + MAX_VIEWS * (1 + CONCEPT_SIZES + 2 * MAX_TOKE
 // Room for more than the longer of the two.
 const BYTES: usize = 2 * CATALOGUE_WORDS + 1;
 
-fn print(text: &[u8]) {
-    io::write_all(libc::STDOUT_FILENO, text);
+fn print(rt: &impl Print, text: &[u8]) -> io::Result<()> {
+    rt.write_all(text)
 }
 
-fn print_number(n: usize) {
-    io::print_decimal(libc::STDOUT_FILENO, n as u64);
+fn print_number(rt: &impl Print, n: usize) -> io::Result<()> {
+    rt.print(n)
 }
 
-fn print_view(first: bool, view: usize) {
+fn print_view(rt: &impl Print, first: bool, view: usize) -> io::Result<()> {
     if !first {
-        print(b" ");
+        print(rt, b" ")?;
     }
-    print_number(view);
+    print_number(rt, view)
 }
 
-fn print_group(set: u16) {
+fn print_group(rt: &impl Print, set: u16) -> io::Result<()> {
     let mut first = true;
     for view in 0..MAX_VIEWS {
         if has(set, view) {
-            print_view(first, view);
+            print_view(rt, first, view)?;
             first = false;
         }
     }
-    print(b"\n");
+    print(rt, b"\n")
 }
 
-fn print_row(verdicts: [HoldsAnswer; MAX_VIEWS]) {
+fn print_row(rt: &impl Print, verdicts: [HoldsAnswer; MAX_VIEWS]) -> io::Result<()> {
     let mut first = true;
     for view in 0..MAX_VIEWS {
         let verdict = verdicts[view];
         if let HoldsAnswer::Held = verdict {
-            print_view(first, view);
+            print_view(rt, first, view)?;
             first = false;
         }
     }
-    print(b"\n");
+    print(rt, b"\n")
 }
 
-fn print_table(table: [[HoldsAnswer; MAX_VIEWS]; MAX_VIEWS], count: usize) {
+fn print_table(
+    rt: &impl Print,
+    table: [[HoldsAnswer; MAX_VIEWS]; MAX_VIEWS],
+    count: usize,
+) -> io::Result<()> {
     for view in 0..MAX_VIEWS {
         if view < count {
-            print_row(table[view]);
+            print_row(rt, table[view])?;
         }
     }
+    Ok(())
 }
 
-fn print_order(found: Order) {
+fn print_order(rt: &impl Print, found: Order) -> io::Result<()> {
     let groups = found.groups;
     for k in 0..MAX_VIEWS {
         if (k as u64) < found.count {
-            print_group(groups[k]);
+            print_group(rt, groups[k])?;
         }
     }
+    Ok(())
 }
 
-fn run(schema: &[u16], catalogue: &[u16]) {
+fn run(rt: &impl Print, schema: &[u16], catalogue: &[u16]) -> io::Result<()> {
     let answer = order(schema, catalogue);
     if answer.refusal != 0 {
-        print(b"REFUSED ");
-        print_number(answer.refusal as usize);
-        print(b"\n");
-        return;
+        print(rt, b"REFUSED ")?;
+        print_number(rt, answer.refusal as usize)?;
+        return print(rt, b"\n");
     }
-    print_order(answer.order);
-    print(b"\n");
-    print_table(verdicts(schema, catalogue), views(catalogue));
+    print_order(rt, answer.order)?;
+    print(rt, b"\n")?;
+    print_table(rt, verdicts(schema, catalogue), views(catalogue))
 }
 
-fn run_with_schema(schema: &[u16], bytes: &mut [u8]) {
+fn run_with_schema(rt: &(impl Files + Print), schema: &[u16], bytes: &mut [u8]) -> io::Result<()> {
     let mut catalogue = [0u16; CATALOGUE_WORDS];
-    let n = files::load(b"catalogue.bin", bytes, &mut catalogue);
-    run(schema, &catalogue[..n]);
+    let n = files::load(rt, b"catalogue.bin", bytes, &mut catalogue);
+    run(rt, schema, &catalogue[..n])
 }
 
-fn main() {
+fn main(rt: HostRuntime) -> io::Result<()> {
     let mut bytes = [0u8; BYTES];
     let mut schema = [0u16; SCHEMA_WORDS];
-    let n = files::load(b"schema.bin", &mut bytes, &mut schema);
-    run_with_schema(&schema[..n], &mut bytes);
+    let n = files::load(&rt, b"schema.bin", &mut bytes, &mut schema);
+    run_with_schema(&rt, &schema[..n], &mut bytes)
 }

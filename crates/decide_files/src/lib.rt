@@ -8,6 +8,8 @@ use records::layout::{left, right};
 use records::schema::{MAX_AXIOMS, SCHEMA_SIZES};
 use records::state::{STATE_WORDS, facts, state_layout};
 use records::token::{CONCEPT_SIZES, MAX_TOKENS};
+use std::io;
+use std::rt::Files;
 
 // The most words of an accepted record. A longer file gives no words.
 const SCHEMA_WORDS: usize = SCHEMA_SIZES + 2 * MAX_AXIOMS;
@@ -17,64 +19,69 @@ const CONCEPT_WORDS: usize = CONCEPT_SIZES + 2 * MAX_TOKENS;
 // Room for more than the longer of the two.
 const BYTES: usize = 2 * SCHEMA_WORDS + 1;
 
-fn print(text: &[u8]) {
-    io::write_all(libc::STDOUT_FILENO, text);
+fn print(rt: &impl Print, text: &[u8]) -> io::Result<()> {
+    rt.write_all(text)
 }
 
-fn print_number(n: usize) {
-    io::print_decimal(libc::STDOUT_FILENO, n as u64);
+fn print_number(rt: &impl Print, n: usize) -> io::Result<()> {
+    rt.print(n)
 }
 
-fn print_pair(a: usize, b: usize) {
-    print_number(a);
-    print(b" ");
-    print_number(b);
-    print(b"\n");
+fn print_pair(rt: &impl Print, a: usize, b: usize) -> io::Result<()> {
+    println!(rt; "{a} {b}")
 }
 
-fn print_facts(words: &[u16]) {
+fn print_facts(rt: &impl Print, words: &[u16]) -> io::Result<()> {
     let n = facts(words);
     for i in 0..n {
         print_pair(
+            rt,
             left(state_layout(), words, i),
             right(state_layout(), words, i),
-        );
+        )?;
     }
+    Ok(())
 }
 
-fn run(schema: &[u16], query: &[u16], view: &[u16]) {
+fn run(rt: &impl Print, schema: &[u16], query: &[u16], view: &[u16]) -> io::Result<()> {
     let mut lent = [0u16; STATE_WORDS];
     match decide(schema, query, view, &mut lent) {
-        DecideAnswer::Held => print(b"HELD\n"),
+        DecideAnswer::Held => print(rt, b"HELD\n"),
         DecideAnswer::Open(objects, object) => {
-            print(b"OPEN ");
-            print_pair(objects, object);
-            print_facts(&lent);
+            print(rt, b"OPEN ")?;
+            print_pair(rt, objects, object)?;
+            print_facts(rt, &lent)
         }
         DecideAnswer::Refused(number) => {
-            print(b"REFUSED ");
-            print_number(number as usize);
-            print(b"\n");
+            print(rt, b"REFUSED ")?;
+            print_number(rt, number as usize)?;
+            print(rt, b"\n")
         }
     }
 }
 
 // The view is looked at last.
-fn run_with_query(schema: &[u16], query: &[u16], bytes: &mut [u8]) {
+fn run_with_query(
+    rt: &(impl Files + Print),
+    schema: &[u16],
+    query: &[u16],
+    bytes: &mut [u8],
+) -> io::Result<()> {
     let mut view = [0u16; CONCEPT_WORDS];
-    let n = files::load(b"view.bin", bytes, &mut view);
-    run(schema, query, &view[..n]);
+    let n = files::load(rt, b"view.bin", bytes, &mut view);
+    run(rt, schema, query, &view[..n])
 }
 
-fn run_with_schema(schema: &[u16], bytes: &mut [u8]) {
+fn run_with_schema(rt: &(impl Files + Print), schema: &[u16], bytes: &mut [u8]) -> io::Result<()> {
     let mut query = [0u16; CONCEPT_WORDS];
-    let n = files::load(b"query.bin", bytes, &mut query);
-    run_with_query(schema, &query[..n], bytes);
+    let n = files::load(rt, b"query.bin", bytes, &mut query);
+    run_with_query(rt, schema, &query[..n], bytes)
 }
 
-pub fn run_folder() {
+// Fails only where a write to standard output does.
+pub fn run_folder(rt: &(impl Files + Print)) -> io::Result<()> {
     let mut bytes = [0u8; BYTES];
     let mut schema = [0u16; SCHEMA_WORDS];
-    let n = files::load(b"schema.bin", &mut bytes, &mut schema);
-    run_with_schema(&schema[..n], &mut bytes);
+    let n = files::load(rt, b"schema.bin", &mut bytes, &mut schema);
+    run_with_schema(rt, &schema[..n], &mut bytes)
 }

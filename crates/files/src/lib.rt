@@ -4,6 +4,10 @@
 ghost use Rattle.std.specs.Prelude.{◌≡◌, ◌+◌, ◌*◌, ◌≤◌, length};
 ghost use Rattle.files.specs.Bytes.{IsCount, Decoded, Loaded};
 
+use std::fs;
+use std::io::Read;
+use std::rt::Files;
+
 fn join(low: u8, high: u8) -> u16
     ensures { result ≡ low + 256 * high }
 {
@@ -33,17 +37,33 @@ pub fn decode(bytes: &[u8], words: &mut [u16]) -> usize
     n
 }
 
+// Reads until `bytes` is full, the file ends or a read fails, and says how many bytes it put at the start.
+fn read_full(file: &mut impl Read, bytes: &mut [u8]) -> usize
+    ensures { result ≤ length bytes.new }
+{
+    let mut got = 0;
+    while got < bytes.len() {
+        match file.read(&mut bytes[got..]) {
+            Ok(0) | Err(_) => break,
+            Ok(n) => got += n,
+        }
+    }
+    got
+}
+
 // How many words of the file stand at the start of `words`. None is the empty record, which every check refuses for its
-// shape. To tell a file that is too long, lend more bytes than `words` has room for.
-pub fn load(path: &[u8], bytes: &mut [u8], words: &mut [u16]) -> usize
+// shape. A file that cannot be opened gives none, and so does a path that is no text, since std opens no other. To tell a file
+// that is too long, lend more bytes than `words` has room for.
+pub fn load(files: &impl Files, path: &[u8], bytes: &mut [u8], words: &mut [u16]) -> usize
     ensures upper_bound { result ≤ length words.new }
     ensures loaded { Loaded bytes.new words.old result words.new }
 {
-    let file = os::open_read(path);
-    if file < 0 {
+    let Ok(name) = str::from_utf8(path) else {
         return 0;
-    }
-    let got = io::read_full(file, bytes);
-    libc::close(file);
+    };
+    let Ok(mut file) = fs::open(files, name) else {
+        return 0;
+    };
+    let got = read_full(&mut file, bytes);
     decode(&bytes[..got], words)
 }

@@ -10,28 +10,29 @@ use records::concept::ConceptAnswer;
 use records::layout::word;
 use records::marks::allow;
 use records::schema::{SchemaAnswer, Signature};
+use std::io;
+use std::rt::Files;
 
 const WORDS: usize = 163_840;
 
 const BYTES: usize = 2 * WORDS;
 
-fn print(text: &[u8]) {
-    io::write_all(libc::STDOUT_FILENO, text);
+fn print(rt: &impl Print, text: &[u8]) -> io::Result<()> {
+    rt.write_all(text)
 }
 
-fn report(role: &[u8], number: u16) {
-    print(role);
-    io::print_decimal(libc::STDOUT_FILENO, number as u64);
-    print(b"\n");
+fn report(rt: &impl Print, role: &[u8], number: u16) -> io::Result<()> {
+    print(rt, role)?;
+    println!(rt; "{number}")
 }
 
 // Checks one record in its role. An accepted schema is the one under which the next records stand, and an accepted query the one
 // whose marks the next states have.
-fn check(role: u16, s: Signature, record: &[u16]) -> Signature {
-    match role {
+fn check(rt: &impl Print, role: u16, s: Signature, record: &[u16]) -> io::Result<Signature> {
+    Ok(match role {
         1 => {
             let answer = check_schema(record);
-            report(b" schema ", answer.number());
+            report(rt, b" schema ", answer.number())?;
             if let SchemaAnswer::Accepted(next) = answer {
                 next
             } else {
@@ -40,7 +41,7 @@ fn check(role: u16, s: Signature, record: &[u16]) -> Signature {
         }
         2 => {
             let answer = check_query(s, record);
-            report(b" query ", answer.number());
+            report(rt, b" query ", answer.number())?;
             if let ConceptAnswer::Accepted(_) = answer {
                 allow(s, used(record))
             } else {
@@ -48,22 +49,22 @@ fn check(role: u16, s: Signature, record: &[u16]) -> Signature {
             }
         }
         3 => {
-            report(b" view ", check_view(s, record).number());
+            report(rt, b" view ", check_view(s, record).number())?;
             s
         }
         4 => {
-            report(b" concept ", check_plain(s, record).number());
+            report(rt, b" concept ", check_plain(s, record).number())?;
             s
         }
         _ => {
-            report(b" state ", check_state(s, record).number());
+            report(rt, b" state ", check_state(s, record).number())?;
             s
         }
-    }
+    })
 }
 
 // A case is its role, its length and its words.
-fn run(words: &[u16]) {
+fn run(rt: &impl Print, words: &[u16]) -> io::Result<()> {
     let mut s = Signature {
         classes: 0,
         attributes: 0,
@@ -75,30 +76,31 @@ fn run(words: &[u16]) {
     let mut case: u64 = 0;
     while at < words.len() {
         if words.len() - at < 2 {
-            return;
+            return Ok(());
         }
         let role = words[at];
         let n = word(words, at + 1);
         let from = at + 2;
         if words.len() - from < n {
-            return;
+            return Ok(());
         }
         let to = from + n;
-        io::print_decimal(libc::STDOUT_FILENO, case);
-        let next = check(role, s, &words[from..to]);
+        print!(rt; "{case}")?;
+        let next = check(rt, role, s, &words[from..to])?;
         s = next;
         at = to;
-        case = std::num::wrapping_add_u64(case, 1);
+        case = case.wrapping_add(1);
     }
+    Ok(())
 }
 
-fn load_and_run(bytes: &mut [u8], words: &mut [u16]) {
-    let n = files::load(b"cases.bin", bytes, words);
-    run(&words[..n]);
+fn load_and_run(rt: &(impl Files + Print), bytes: &mut [u8], words: &mut [u16]) -> io::Result<()> {
+    let n = files::load(rt, b"cases.bin", bytes, words);
+    run(rt, &words[..n])
 }
 
-fn main() {
+fn main(rt: HostRuntime) -> io::Result<()> {
     let mut bytes = [0u8; BYTES];
     let mut words = [0u16; WORDS];
-    load_and_run(&mut bytes, &mut words);
+    load_and_run(&rt, &mut bytes, &mut words)
 }
