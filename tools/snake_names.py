@@ -53,7 +53,7 @@ for p, t in texts.items():
 turned = {n: spelled(n) for n in own if spelled(n) != n}
 # A lemma (with dashes) that would have its function's name.
 taken = {spelled(n) for n in own if "-" not in n}
-turned = turned | {n: s + "_lem" for n, s in turned.items() if "-" in n and n[0].islower() and s in taken}
+turned = turned | {n: s + "_lem" for n, s in turned.items() if "-" in n and n[0].islower() and s in taken and n != "is-held"}  # a field
 turned = turned | {"made_all": "made_all_lem", "left_is": "left_is_lem"}  # lemmas that port.py had spelled already
 
 # What a file keeps: names that Rattle makes, and those that it imports from a library.

@@ -12,7 +12,7 @@ pub extern "C" fn bikuvoa_check_concept(
     attributes: &mut u32,
     named: &mut u64,
 ) -> u16
-    ensures { CheckedTo (plain_check schema.now concept.now) (record { classes = classes.entry.now; attributes = attributes.old; count = named.old }) result (record { classes = classes.exit.now; attributes = attributes.new; count = named.new }) }
+    ensures { CheckedTo (plain_check schema.now concept.now) (record { classes = classes.old; attributes = attributes.old; count = named.old }) result (record { classes = classes.new; attributes = attributes.new; count = named.new }) }
 {
     give(
         check_concept::check::plain(schema, concept),
@@ -30,7 +30,7 @@ pub extern "C" fn bikuvoa_check_query(
     attributes: &mut u32,
     named: &mut u64,
 ) -> u16
-    ensures { CheckedTo (query_check schema.now query.now) (record { classes = classes.entry.now; attributes = attributes.old; count = named.old }) result (record { classes = classes.exit.now; attributes = attributes.new; count = named.new }) }
+    ensures { CheckedTo (query_check schema.now query.now) (record { classes = classes.old; attributes = attributes.old; count = named.old }) result (record { classes = classes.new; attributes = attributes.new; count = named.new }) }
 {
     give(
         check_concept::check::query(schema, query),
@@ -48,7 +48,7 @@ pub extern "C" fn bikuvoa_check_view(
     attributes: &mut u32,
     named: &mut u64,
 ) -> u16
-    ensures { CheckedTo (view_check schema.now view.now) (record { classes = classes.entry.now; attributes = attributes.old; count = named.old }) result (record { classes = classes.exit.now; attributes = attributes.new; count = named.new }) }
+    ensures { CheckedTo (view_check schema.now view.now) (record { classes = classes.old; attributes = attributes.old; count = named.old }) result (record { classes = classes.new; attributes = attributes.new; count = named.new }) }
 {
     give(
         check_concept::check::view(schema, view),

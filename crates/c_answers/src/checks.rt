@@ -24,7 +24,7 @@ pub fn check_writes(answer: CheckAnswer, before: Named) -> Named
 }
 
 pub fn give(answer: CheckAnswer, classes: &mut u32, attributes: &mut u32, named: &mut u64) -> u16
-    ensures { CheckedTo answer (record { classes = classes.entry.now; attributes = attributes.old; count = named.old }) result (record { classes = classes.exit.now; attributes = attributes.new; count = named.new }) }
+    ensures { CheckedTo answer (record { classes = classes.old; attributes = attributes.old; count = named.old }) result (record { classes = classes.new; attributes = attributes.new; count = named.new }) }
 {
     let before = Named {
         classes: *classes,

@@ -72,21 +72,21 @@ module _ (schema w : List ℕ) where
       record {
         size = m.known.size;
         tells = λ i j h k. tell i j (or_true_cases (in_row rows i j) (in_row opens i j) (m.told i j h k));
-        inside = λ i j h. let x = m.known.is_held_lem i j h in (x.0, x.1);
+        inside = λ i j h. let x = m.known.is_held i j h in (x.0, x.1);
       }
     where
       tell : (i j : ℕ) → So (in_row rows i j) ⊎ So (in_row opens i j) → Tells schema (view_at w i) (view_at w j) (in_row rows i j)
       tell i j (inl x) =
-          let held = (m.known.is_held_lem i j x).2 in
+          let held = (m.known.is_held i j x).2 in
           rw x
           (record {
-            is_held_lem = (λ _. held, λ _. refl);
+            is_held = (λ _. held, λ _. refl);
             is_open = (λ e. absurd (false≢true e), λ o. absurd (held_not_open (schema_of schema) (view schema w i) (view schema w j) held o));
           })
       tell i j (inr x) =
           let opened = (m.known.is_open i j x).2 in
-          rw (false_of (in_row rows i j) (λ h. held_not_open (schema_of schema) (view schema w i) (view schema w j) (m.known.is_held_lem i j h).2 opened))
+          rw (false_of (in_row rows i j) (λ h. held_not_open (schema_of schema) (view schema w i) (view schema w j) (m.known.is_held i j h).2 opened))
           (record {
-            is_held_lem = (λ e. absurd (false≢true e), λ h. absurd (held_not_open (schema_of schema) (view schema w i) (view schema w j) h opened));
+            is_held = (λ e. absurd (false≢true e), λ h. absurd (held_not_open (schema_of schema) (view schema w i) (view schema w j) h opened));
             is_open = (λ _. opened, λ _. refl);
           })

@@ -35,10 +35,10 @@ module _ (schema w : List ℕ) where
     InGroup k i = So (bit (get_or o.groups k 0) i)
 
     told : (i j : ℕ) → i < n → j < n → So (held i j) → HeldBy schema w i j
-    told i j h k = (tells i j h k).is_held_lem.0
+    told i j h k = (tells i j h k).is_held.0
 
     test : (i j : ℕ) → i < n → j < n → HeldBy schema w i j → So (held i j)
-    test i j h k = (tells i j h k).is_held_lem.1
+    test i j h k = (tells i j h k).is_held.1
 
     self : (i : ℕ) → i < n → So (held i i)
     self i h = test i i h h (held_self (schema_of schema) (view schema w i))

@@ -82,7 +82,7 @@ module _ (schema w : List ℕ) where
         size = l.size;
         opens_size = length-replicate {A = ℕ} max_views 0;
         self = λ i h. rw (l.first i h) (word_one i i ∙ eq-eqb i i refl);
-        is_held_lem = λ i j h. let (y, e) = alone_row rows l i j h in (y, rw e y, rw e (held_self (schema_of schema) (view i)));
+        is_held = λ i j h. let (y, e) = alone_row rows l i j h in (y, rw e y, rw e (held_self (schema_of schema) (view i)));
         is_open = λ i j h. absurd (false≢true (sym (word_zero j) ∙ rw (get_or-replicate {A = ℕ} max_views i 0 0 (row_inside (replicate max_views 0) i j (length-replicate {A = ℕ} max_views 0) h)) at h));
       }
 
@@ -94,9 +94,9 @@ module _ (schema w : List ℕ) where
         let (a, l, x) = any_found (λ a. in_row rows a i && meets (get_or opens a 0) (get_or rows j 0)) n h in
         let both = and_parts (in_row rows a i) (meets (get_or opens a 0) (get_or rows j 0)) x in
         let (b, p, q) = meets_some (get_or opens a 0) (get_or rows j 0) both.1 in
-        let o = open_through (schema_of schema) (view i) (view a) (view b) (view j) (known.is_held_lem a i both.0).2 (known.is_open a b p).2 (known.is_held_lem j b q).2 in
+        let o = open_through (schema_of schema) (view i) (view a) (view b) (view j) (known.is_held a i both.0).2 (known.is_open a b p).2 (known.is_held j b q).2 in
         record {
-          is_held_lem = (λ e. absurd (false≢true e), λ e. absurd (held_not_open (schema_of schema) (view i) (view j) e o));
+          is_held = (λ e. absurd (false≢true e), λ e. absurd (held_not_open (schema_of schema) (view i) (view j) e o));
           is_open = (λ _. o, λ _. refl);
         }
 
@@ -108,7 +108,7 @@ module _ (schema w : List ℕ) where
       -- a pair that is held, and what follows from it
       module _ (rows' : List ℕ) (z : Joined n i j rows rows') where
         keeps : (a b : ℕ) → So (in_row rows a b) → So (in_row rows' a b)
-        keeps a b h = rw (z.first a (known.is_held_lem a b h).0) (joined_keeps i (get_or rows j 0) (get_or rows a 0) b h)
+        keeps a b h = rw (z.first a (known.is_held a b h).0) (joined_keeps i (get_or rows j 0) (get_or rows a 0) b h)
 
         pub held_settled : So (settled rows' opens i j)
         held_settled =
@@ -119,11 +119,11 @@ module _ (schema w : List ℕ) where
         cases e a b h =
             elim (dec_lt a n) [
               | yes l ↦
-                  ⊎_elim (known.is_held_lem a b)
-                  (λ (x : So (in_row rows a i) × So (in_row rows j b)). let y = known.is_held_lem j b x.1 in (l, y.1, by_two a i b (known.is_held_lem a i x.0).2 (by_two i j b e y.2)))
+                  ⊎_elim (known.is_held a b)
+                  (λ (x : So (in_row rows a i) × So (in_row rows j b)). let y = known.is_held j b x.1 in (l, y.1, by_two a i b (known.is_held a i x.0).2 (by_two i j b e y.2)))
                   (joined_cases i (get_or rows j 0) (get_or rows a 0) b (rw (z.first a l) at h))
               | no m ↦
-                  known.is_held_lem a b (rw (z.rest a (omega arith) (row_inside rows' a b z.size h)) at h)
+                  known.is_held a b (rw (z.rest a (omega arith) (row_inside rows' a b z.size h)) at h)
             ]
 
         pub grown_held : HeldBy i j → Grown schema w rows opens rows' opens
@@ -135,7 +135,7 @@ module _ (schema w : List ℕ) where
                     size = z.size;
                     opens_size = known.opens_size;
                     self = λ a h. keeps a a (known.self a h);
-                    is_held_lem = cases e;
+                    is_held = cases e;
                     is_open = known.is_open;
                   };
               keeps = λ a b h. ⊎_elim (λ x. or_left (in_row rows' a b) (in_row opens a b) (keeps a b x)) (or_right (in_row rows' a b) (in_row opens a b)) (or_true_cases (in_row rows a b) (in_row opens a b) h);
@@ -169,7 +169,7 @@ module _ (schema w : List ℕ) where
                   size = known.size;
                   opens_size = length-set opens i _ ∙ known.opens_size;
                   self = known.self;
-                  is_held_lem = known.is_held_lem;
+                  is_held = known.is_held;
                   is_open = λ a b. set_elim (λ x. So (bit x b) → (a < n) × (b < n) × OpenTo a b) opens i _ a inside (λ e. rw e (new b)) (λ m. known.is_open a b);
                 };
             keeps = λ a b h. ⊎_elim (or_left (in_row rows a b) (in_row opens' a b)) (λ x. or_right (in_row rows a b) (in_row opens' a b) (kept a b x)) (or_true_cases (in_row rows a b) (in_row opens a b) h);

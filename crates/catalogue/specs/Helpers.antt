@@ -66,7 +66,7 @@ module _ (schema w : List ℕ) where
     pub size : Rows rows
     pub opens_size : Rows opens
     pub self : (i : ℕ) → i < views w → So (in_row rows i i)
-    pub is_held_lem : (i j : ℕ) → So (in_row rows i j) → (i < views w) × (j < views w) × Held (schema_of schema) (concept_of (view_at w i)) (concept_of (view_at w j))
+    pub is_held : (i j : ℕ) → So (in_row rows i j) → (i < views w) × (j < views w) × Held (schema_of schema) (concept_of (view_at w i)) (concept_of (view_at w j))
     pub is_open : (i j : ℕ) → So (in_row opens i j) → (i < views w) × (j < views w) × Open (schema_of schema) (concept_of (view_at w i)) (concept_of (view_at w j))
 
   -- more is known, and nothing is forgotten

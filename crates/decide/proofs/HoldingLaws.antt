@@ -28,12 +28,12 @@ module _ (schema query view : List ℕ) where
   pub told_tells : (answer : DecideAnswer) → Told schema query view answer → Tells schema query view (is_held answer)
   told_tells answers.Held t =
       record {
-        is_held_lem = (λ _. t.is_held_lem.0 refl, λ _. refl);
+        is_held = (λ _. t.is_held.0 refl, λ _. refl);
         is_open = (λ e. absurd (false≢true e), λ o. let (n, d, e) = t.is_open.1 o in absurd (false≢true cc));
       }
   told_tells (answers.Open n d) t =
       record {
-        is_held_lem = (λ e. absurd (false≢true e), λ h. let e = t.is_held_lem.1 h in absurd (false≢true cc));
+        is_held = (λ e. absurd (false≢true e), λ h. let e = t.is_held.1 h in absurd (false≢true cc));
         is_open = (λ _. t.is_open.0 (n, d, refl), λ _. refl);
       }
   told_tells (answers.Refused number) t =
@@ -43,13 +43,13 @@ module _ (schema query view : List ℕ) where
   tells_holds true t =
       record {
         either = inl refl;
-        is_held_lem = (λ _. t.is_held_lem.0 refl, λ _. refl);
+        is_held = (λ _. t.is_held.0 refl, λ _. refl);
         is_open = (λ e. absurd (false≢true cc), λ o. absurd (false≢true (t.is_open.1 o)));
       }
   tells_holds false t =
       record {
         either = inr refl;
-        is_held_lem = (λ e. absurd (false≢true cc), λ h. absurd (false≢true (t.is_held_lem.1 h)));
+        is_held = (λ e. absurd (false≢true cc), λ h. absurd (false≢true (t.is_held.1 h)));
         is_open = (λ _. t.is_open.0 refl, λ _. refl);
       }
 

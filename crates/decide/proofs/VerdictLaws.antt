@@ -50,7 +50,7 @@ module _ (schema query view : List ℕ) where
   told_held h =
       record {
         either = inl refl;
-        is_held_lem = (λ _. h, λ _. refl);
+        is_held = (λ _. h, λ _. refl);
         is_open = (λ o. absurd (false≢true (let e = o.2 in cc)), λ o. absurd (exclude S (concept_of query) (concept_of view) h o));
       }
 
@@ -58,7 +58,7 @@ module _ (schema query view : List ℕ) where
   told_open n d o =
       record {
         either = inr (n, d, refl);
-        is_held_lem = (λ e. absurd (false≢true cc), λ h. absurd (exclude S (concept_of query) (concept_of view) h o));
+        is_held = (λ e. absurd (false≢true cc), λ h. absurd (exclude S (concept_of query) (concept_of view) h o));
         is_open = (λ _. o, λ _. (n, d, refl));
       }
 
@@ -68,7 +68,7 @@ module _ (schema query view : List ℕ) where
         let t = told_held h in
         record {
           either = t.either;
-          is_held_lem = t.is_held_lem;
+          is_held = t.is_held;
           unaltered = λ _. refl;
           is_open = t.is_open;
           shown = λ n d e. absurd (false≢true cc);
@@ -79,7 +79,7 @@ module _ (schema query view : List ℕ) where
         let t = told_open n d (state_of s.written, d, s.counterexample) in
         record {
           either = t.either;
-          is_held_lem = t.is_held_lem;
+          is_held = t.is_held;
           unaltered = λ e. absurd (false≢true cc);
           is_open = t.is_open;
           shown = λ m e q. again m e q;

@@ -31,7 +31,7 @@ module _ (schema query view lent : List ℕ) where
     -- what is answered to accepted records
     pub record Verdict : Type 0 where
       pub either : (answer ≡ answers.Held) ⊎ ((n d : ℕ) × (answer ≡ answers.Open n d))
-      pub is_held_lem : (answer ≡ answers.Held) ↔ Held (schema_of schema) (concept_of query) (concept_of view)
+      pub is_held : (answer ≡ answers.Held) ↔ Held (schema_of schema) (concept_of query) (concept_of view)
       pub unaltered : answer ≡ answers.Held → words ≡ lent
       pub is_open : ((n d : ℕ) × (answer ≡ answers.Open n d)) ↔ Open (schema_of schema) (concept_of query) (concept_of view)
       pub shown : (n d : ℕ) → answer ≡ answers.Open n d → Shown n d words

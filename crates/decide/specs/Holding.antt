@@ -14,14 +14,14 @@ holds_refusals schema query view = schema_refusal schema ∷ query_refusal schem
 
 -- whether the view holds the query, as a truth value
 pub record Tells (schema query view : List ℕ) (held : Bool) : Type 0 where
-  pub is_held_lem : So held ↔ Held (schema_of schema) (concept_of query) (concept_of view)
+  pub is_held : So held ↔ Held (schema_of schema) (concept_of query) (concept_of view)
   pub is_open : So (not held) ↔ Open (schema_of schema) (concept_of query) (concept_of view)
 
 module _ (schema query view : List ℕ) (answer : HoldsAnswer) where
   -- what is answered to accepted records
   pub record Holds : Type 0 where
     pub either : (answer ≡ answers.Held) ⊎ (answer ≡ answers.Open)
-    pub is_held_lem : (answer ≡ answers.Held) ↔ Held (schema_of schema) (concept_of query) (concept_of view)
+    pub is_held : (answer ≡ answers.Held) ↔ Held (schema_of schema) (concept_of query) (concept_of view)
     pub is_open : (answer ≡ answers.Open) ↔ Open (schema_of schema) (concept_of query) (concept_of view)
 
   -- what is answered to any words

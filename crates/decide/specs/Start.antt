@@ -50,7 +50,7 @@ pub record Listable (schema view reps edges words : List ℕ) (z : Shape) : Type
 -- held or open is said, each exactly when it is so
 pub record Told (schema query view : List ℕ) (answer : DecideAnswer) : Type 0 where
   pub either : (answer ≡ answers.Held) ⊎ ((n d : ℕ) × (answer ≡ answers.Open n d))
-  pub is_held_lem : (answer ≡ answers.Held) ↔ Held (schema_of schema) (concept_of query) (concept_of view)
+  pub is_held : (answer ≡ answers.Held) ↔ Held (schema_of schema) (concept_of query) (concept_of view)
   pub is_open : ((n d : ℕ) × (answer ≡ answers.Open n d)) ↔ Open (schema_of schema) (concept_of query) (concept_of view)
 
 abbrev pub is_held : DecideAnswer → Bool
