@@ -5,7 +5,6 @@ use mathlib.Core.Bool.{Bool, true, false}
 use mathlib.Core.List.{List}
 use mathlib.Core.Path.{◌≡◌, refl}
 use Rattle.records.specs.Layout.{concept_layout, entries, query_steps}
-use Rattle.records.specs.Finite.{count}
 use Rattle.records.specs.ConceptRefusal.{step_at, steps}
 use Rattle.records.proofs.General.FiniteLaws.{count_mono}
 use Rattle.chase.specs.Facts.{Facts}

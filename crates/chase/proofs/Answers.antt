@@ -26,7 +26,6 @@ use Rattle.chase.specs.Task.{Task, WellFormed, signature, nodes, start_node, con
 use Rattle.chase.specs.Primary.{Prime, rep_of, set_of, primary, clash}
 use Rattle.chase.specs.Ground.{Ground, live, object_of, renumber, ground_of, ground}
 use Rattle.chase.specs.Forest.{Forest, bare, size, classes_of, lacks}
-use Rattle.chase.specs.Closing.{closed}
 use Rattle.chase.specs.Candidate.{links, lacking, objects, chased, candidate_of, forest, candidate, first}
 use Rattle.records.proofs.General.AllLaws.{all_map, all_zip, all_unmapped}
 use Rattle.chase.proofs.ClosureLaws.{needs_sound, image_sound}

@@ -15,7 +15,7 @@ use Rattle.records.specs.Helpers.Loops.{each}
 use Rattle.chase.specs.ClassSet.{place, has}
 use Rattle.chase.specs.Axioms.{domain, values, is_single, raise}
 use Rattle.chase.specs.Facts.{Membership, Edge}
-use Rattle.chase.specs.Task.{Task, WellFormed, signature, nodes, asked, Tie, ties}
+use Rattle.chase.specs.Task.{Task, WellFormed, nodes, asked, Tie, ties}
 use Rattle.chase.specs.Primary.{Prime, rep_of, set_of, merge, equate, assert, lift, type_origin, type_target, rival, unify, equate_all, assert_all, lift_all, type_all, unify_all, pass, weight, numbers_from, begin, bound, settled, primary}
 use Rattle.records.proofs.General.BoolLaws.{cond_elim, and_parts}
 use Rattle.records.proofs.General.AllLaws.{All, all_map, all_zip}

@@ -7,7 +7,6 @@ use Rattle.records.specs.Layout.{object_part, word_part, attribute_kinds}
 use Rattle.records.specs.Schema.{Schema}
 use Rattle.records.specs.Encoding.{fact}
 use Rattle.chase.specs.ClassSet.{has}
-use Rattle.chase.specs.Task.{signature}
 use Rattle.chase.specs.Ground.{Ground}
 use Rattle.chase.specs.Forest.{Forest, classes_of}
 use Rattle.chase.specs.Candidate.{objects}

@@ -1,5 +1,5 @@
 -- What the check of a schema answers once its shape is right, by two tests.
-use Rattle.std.specs.Prelude.{◌-◌, Bool, cond}
+use Rattle.std.specs.Prelude.{Bool, cond}
 use Rattle.records.specs.declared.schema.Signature.{Signature}
 use Rattle.records.specs.declared.schema.SchemaAnswer.{SchemaAnswer}
 use Rattle.records.specs.declared.schema.SchemaAnswer.TheVariants as schema

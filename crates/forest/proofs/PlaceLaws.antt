@@ -11,7 +11,7 @@ use lib.ListN.{length, get_or, set, take, length-set}
 use lib.Seq.{take-suc, take-suc-set, get_or-set_same, get_or-set_other}
 use Rattle.records.specs.Concept.{Direction, direction_of}
 use Rattle.chase.specs.Ground.{Ground}
-use Rattle.chase.specs.Forest.{Forest, size, kid, parent, push, hop, next}
+use Rattle.chase.specs.Forest.{Forest, kid, parent, push, hop, next}
 use Rattle.records.proofs.General.BoolLaws.{cond_elim}
 use Rattle.chase.proofs.ForestLaws.{kid_bound}
 use Rattle.ground.specs.Objects.{attribute_in, forest_in, ground_in}

@@ -1,7 +1,7 @@
 -- What the entries' answers mean (specs/Exact.antt), for any words: select_exact, legal_exact and counterexample_exact. First of
 -- accepted records: legal means Legal, an object that is answered is the lowest Counterexample, and a flag tells Selects.
 use Prim.Native.Nat.{ℕ, ◌<◌}
-use mathlib.Core.List.{List, []}
+use mathlib.Core.List.{List}
 use mathlib.Core.Bool.{Bool, true, false, So, cond, not, ◌&&◌, false≢true}
 use mathlib.Core.Logic.{◌↔◌, ◌⊎◌, inl, inr, ⊎_elim}
 use mathlib.Core.Path.{◌≡◌, refl, sym, ap, subst, ◌∙◌}
@@ -30,7 +30,6 @@ use Rattle.judge.specs.Select.{Result, selection, refused_with, select_refusals,
 use Rattle.judge.specs.Counterexample.{separates, lowest, finding, counterexample_refusals, counterexample_answer}
 use Rattle.judge.specs.LegalState.{judgement, legal_refusals, legal_answer}
 use Rattle.judge.specs.Exact.{Selected, FirstBroken, Judged, Lowest, Found, SelectExact, LegalExact, CounterexampleExact}
-use Rattle.judge.specs.declared.select.SelectAnswer.TheVariants as select
 use Rattle.judge.specs.declared.legal.LegalAnswer.{LegalAnswer}
 use Rattle.judge.specs.declared.counterexample.CounterexampleAnswer.{CounterexampleAnswer}
 use Rattle.judge.specs.declared.legal.LegalAnswer.TheVariants as legal

@@ -1,5 +1,5 @@
 -- The facts of a state as numbers: how they stand in order, and what the check of a record asks of one.
-use Prim.Native.Nat.{ℕ, ◌+◌, ◌-◌, ◌<◌}
+use Prim.Native.Nat.{ℕ, ◌+◌, ◌<◌}
 use native.Mathlib.Omega.{arith}
 use native.Mathlib.Decide.{dec_lt}
 use mathlib.Core.Bool.{So, ◌&&◌, ◌||◌}

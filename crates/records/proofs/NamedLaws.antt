@@ -1,13 +1,10 @@
 -- What a token names: a class by its sort alone, an attribute by its two sorts alone. And what the sets of an accepted concept say.
 use Prim.Native.Nat.{ℕ, ◌<◌}
 use mathlib.Core.Bool.{false, So, false≢true}
-use mathlib.Core.List.{List, [], ◌∷◌}
+use mathlib.Core.List.{List}
 use mathlib.Core.Logic.{◌⊎◌, inl, inr, ⊎_elim, ◌↔◌}
 use mathlib.Core.Path.{◌≡◌, sym, ap, subst}
 use borrow.Author.Tests.{eqb-true, eq-eqb}
-use types.Run.{OneOf, miss}
-use denote.Enum.Declared.{tag_of}
-use Rattle.records.specs.contracts.token.Token as Token
 use Rattle.records.specs.declared.token.Token.TheVariants.{Class, Everything, Constant, Both, Empty, Forward, Backward, Reached, Common, Mark}
 use Rattle.records.specs.declared.token.Token as declared
 use Rattle.records.specs.Layout.{max_classes, max_attributes}

@@ -1,19 +1,13 @@
 -- The first refusal: the laws by which every entry is refused or answers (refused_at, answered_at), what its outcome tells
 -- (outcome_refused, outcome_answered), and the numbers of the checks: 0 where a record is accepted, and otherwise not.
-use Prim.Native.Nat.{ℕ, suc, ◌≤◌, ◌<◌}
-use mathlib.Core.List.{List, [], ◌∷◌, ◌++◌, map}
+use Prim.Native.Nat.{ℕ, ◌≤◌, ◌<◌}
+use mathlib.Core.List.{List, [], ◌∷◌, ◌++◌}
 use mathlib.Core.Bool.{Bool, false, true, cond, false≢true}
 use mathlib.Core.Path.{◌≡◌, refl, sym, ap, ◌∙◌}
-use mathlib.Core.Logic.{⊎_elim}
 use lib.Dec.{eqb}
 use lib.ListN.{length}
 use native.Mathlib.Omega.{arith}
 use borrow.Author.Tests.{eqb-true, eq-eqb, ne_eqb, lt-ltb, le-ltb, ltb-false, leb-false}
-use types.Run.{OneOf}
-use denote.Enum.Declared.{tag_of}
-use Rattle.records.specs.contracts.schema.SchemaAnswer as Schema
-use Rattle.records.specs.contracts.concept.ConceptAnswer as Concept
-use Rattle.records.specs.contracts.state.StateAnswer as State
 use Rattle.records.specs.declared.schema.Signature.{Signature}
 use Rattle.records.specs.declared.schema.SchemaAnswer.{SchemaAnswer}
 use Rattle.records.specs.declared.schema.SchemaAnswer.TheVariants as of_schema

@@ -1,6 +1,6 @@
 -- Document 01, "Turned back": the refusals of a concept, each a test named by its number, and the answer of its check: the first
 -- that applies, or what an accepted concept names. The numbers are the paper's, and 0 for an accepted record.
-use Rattle.std.specs.Prelude.{ℕ, ◌-◌, List, [], ◌∷◌, Bool, true, false, cond, not, ◌||◌, ◌≡◌, eqb, ltb}
+use Rattle.std.specs.Prelude.{ℕ, List, [], ◌∷◌, Bool, true, false, cond, not, ◌||◌, ◌≡◌, eqb, ltb}
 use Rattle.std.proofs.Math.Option.{none, some}
 use Rattle.records.specs.declared.schema.Signature.{Signature}
 use Rattle.records.specs.declared.token.Token.{Token}

@@ -1,6 +1,6 @@
 -- Document 01, "Turned back": the refusals of a schema, each a test named by its number, and the answer of its check: the first
 -- that applies. The numbers are the paper's, and 0 for an accepted record.
-use Rattle.std.specs.Prelude.{ℕ, ◌-◌, List, [], Bool, cond, not, ◌&&◌, ◌||◌, ◌≡◌, ltb, leb}
+use Rattle.std.specs.Prelude.{ℕ, List, Bool, cond, not, ◌&&◌, ◌||◌, ◌≡◌, ltb, leb}
 use Rattle.records.specs.declared.schema.Axiom.{Axiom}
 use Rattle.records.specs.declared.schema.Axiom.TheVariants.{Subclass, Typing, Necessary, Single, Relates}
 use Rattle.records.specs.declared.schema.Signature.{Signature}

@@ -1,5 +1,5 @@
 -- Document 01, "Turned back": what the refusals of all records share.
-use Rattle.std.specs.Prelude.{ℕ, List, [], Bool, not, ◌||◌, eqb, ltb, length}
+use Rattle.std.specs.Prelude.{ℕ, List, Bool, not, ◌||◌, eqb, ltb, length}
 use Rattle.records.specs.declared.layout.Layout.{Layout}
 use Rattle.records.specs.Layout.{entries, length_for}
 

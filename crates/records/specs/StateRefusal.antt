@@ -1,6 +1,6 @@
 -- Document 01, "Turned back": the refusals of a state, each a test named by its number, and the answer of its check: the first
 -- that applies. The numbers are the paper's, and 0 for an accepted record.
-use Rattle.std.specs.Prelude.{ℕ, suc, ◌+◌, ◌-◌, List, [], Bool, cond, not, ◌&&◌, ◌||◌, ◌≡◌, eqb, ltb, leb}
+use Rattle.std.specs.Prelude.{ℕ, suc, ◌+◌, ◌-◌, List, Bool, cond, not, ◌&&◌, ◌||◌, ◌≡◌, eqb, ltb, leb}
 use Rattle.records.specs.declared.schema.Signature.{Signature}
 use Rattle.records.specs.declared.state.StateAnswer.{StateAnswer}
 use Rattle.records.specs.declared.state.StateAnswer.TheVariants as state

@@ -1,5 +1,5 @@
 -- The views passed are accepted (CatalogueLaws).
-use Prim.Native.Nat.{◌-◌, ◌≤◌}
+use Prim.Native.Nat.{◌≤◌}
 use Rattle.records.specs.CatalogueRefusal.{view_numbers}
 use Rattle.records.proofs.OutcomeLaws.{Passed}
 use Rattle.check_catalogue.proofs.check_catalogue.Given as goal

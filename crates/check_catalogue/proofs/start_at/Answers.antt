@@ -1,5 +1,4 @@
 -- The lengths passed are added up; seventeen words that are added up stay small.
-use Prim.Native.Nat.{◌-◌}
 use mathlib.Core.Path.{ap, ◌∙◌}
 use native.Mathlib.Nat.{le_antisymm}
 use native.Mathlib.Omega.{arith}

@@ -1,5 +1,5 @@
 -- The lengths passed are added up; seventeen words that are added up stay small.
-use Prim.Native.Nat.{◌+◌, ◌-◌, ◌*◌, ◌≤◌}
+use Prim.Native.Nat.{◌+◌, ◌*◌, ◌≤◌}
 use mathlib.Core.Path.{◌≡◌}
 use Rattle.records.specs.CatalogueRecord.{start_at}
 use Rattle.check_catalogue.proofs.start_at.Given as goal

@@ -1,6 +1,4 @@
 -- The loop keeps the scan of the tokens passed (scan_after of ConceptScanLaws), none of them faulty.
-use Prim.Native.Nat.{◌-◌}
-use mathlib.Core.Bool.{false}
 use mathlib.Core.Path.{◌≡◌, refl, sym, ◌∙◌}
 use native.Mathlib.Nat.{le_antisymm}
 use native.Mathlib.Numerals.{add-one}

@@ -1,5 +1,5 @@
 -- The loop keeps the scan of the tokens passed (scan_after of ConceptScanLaws), none of them faulty.
-use Prim.Native.Nat.{◌-◌, ◌≤◌}
+use Prim.Native.Nat.{◌≤◌}
 use mathlib.Core.Bool.{false}
 use mathlib.Core.Path.{◌≡◌}
 use Rattle.records.specs.Finite.{any}

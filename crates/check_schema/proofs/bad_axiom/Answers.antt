@@ -1,8 +1,6 @@
 -- Until an axiom is faulty, none before it is.
-use Prim.Native.Nat.{◌-◌}
 use Rattle.records.proofs.General.FiniteLaws.{any_of_lem, any_still, any_zero}
-use Rattle.records.specs.SchemaRefusal.{faulty_axiom, refusal_2}
-use mathlib.Core.Bool.{false}
+use Rattle.records.specs.SchemaRefusal.{refusal_2}
 use mathlib.Core.Path.{◌∙◌, sym}
 use native.Mathlib.Omega.{arith}
 use native.Mathlib.Nat.{le_antisymm}

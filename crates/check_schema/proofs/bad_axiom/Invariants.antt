@@ -1,5 +1,5 @@
 -- Until an axiom is faulty, none before it is.
-use Prim.Native.Nat.{◌-◌, ◌≤◌}
+use Prim.Native.Nat.{◌≤◌}
 use Rattle.records.specs.Finite.{any}
 use Rattle.records.specs.SchemaRefusal.{faulty_axiom}
 use mathlib.Core.Bool.{false}

@@ -1,6 +1,5 @@
 -- The scan keeps the faults, the order and the names of the facts passed (Kept of StateScanLaws).
 use Rattle.std.proofs.lemmas.Bool.{not_from_true, not_from_false}
-use Prim.Native.Nat.{◌-◌}
 use Rattle.records.proofs.General.FiniteLaws.{any_of_lem}
 use Rattle.check_state.proofs.StateScanLaws.{answer_7, answer_8, answer_9, answer_past_9}
 use Rattle.check_state.proofs.StateScanLaws.{kept_10, kept_8, kept_9, kept_all, kept_more, kept_none}
@@ -36,7 +35,7 @@ pub bounds-named-at : goal.bounds-named-at
 bounds-named-at c = c.slot-at.ensures.1
 
 pub loop-i-preserved : goal.loop-i-preserved
-loop-i-preserved c =  (
+loop-i-preserved c = (
   omega arith,
   rw (c.follows.ensures, c.object_at.ensures)
       (kept_more _ _ c.loop-i.invariant.1 (sym c.faulty_fact.ensures ∙ c.if-faulty_fact.false) c.slot-at.result

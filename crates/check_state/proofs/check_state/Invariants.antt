@@ -1,5 +1,5 @@
 -- The scan keeps the faults, the order and the names of the facts passed (Kept of StateScanLaws).
-use Prim.Native.Nat.{◌-◌, ◌≤◌}
+use Prim.Native.Nat.{◌≤◌}
 use Rattle.check_state.proofs.StateScanLaws.{Kept}
 use Rattle.check_state.proofs.check_state.Given as goal
 

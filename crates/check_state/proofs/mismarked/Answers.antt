@@ -1,9 +1,7 @@
 -- Until an allowed mark has no fact or several, none before it has.
-use Prim.Native.Nat.{◌-◌}
 use Rattle.records.proofs.General.FiniteLaws.{any_of_lem, any_still, any_zero}
 use Rattle.records.specs.Layout.{max_marks}
 use Rattle.check_state.specs.Scan.{mismarked, mismarked_at}
-use mathlib.Core.Bool.{false}
 use mathlib.Core.Path.{sym}
 use native.Mathlib.Omega.{arith}
 use native.Mathlib.Nat.{le_antisymm}
@@ -20,7 +18,7 @@ returns-then-allows-counts c =
     (rw (← c.allows.ensures) c.if-allows-counts.true))
 
 pub loop-k-preserved : goal.loop-k-preserved
-loop-k-preserved c =  (
+loop-k-preserved c = (
   omega arith,
   any_still _ _ c.loop-k.invariant.1 (rw (← c.allows.ensures) c.if-allows-counts.false),
 )

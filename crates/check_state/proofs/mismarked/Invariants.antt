@@ -1,5 +1,5 @@
 -- Until an allowed mark has no fact or several, none before it has.
-use Prim.Native.Nat.{◌-◌, ◌≤◌}
+use Prim.Native.Nat.{◌≤◌}
 use Rattle.records.specs.Finite.{any}
 use Rattle.records.specs.Layout.{max_marks}
 use Rattle.check_state.specs.Scan.{mismarked_at}

@@ -1,11 +1,9 @@
 -- Until a constant is misnamed, none before it is.
-use Prim.Native.Nat.{◌-◌}
 use Rattle.records.proofs.General.BoolLaws.{or_right}
 use Rattle.records.proofs.General.FiniteLaws.{any_of_lem, any_still, any_zero}
 use Rattle.check_state.specs.Scan.{slots, misnamed, misnamed_at}
 use borrow.Author.Tests.{le-ltb, lt-ltb}
 use lib.Dec.{ltb}
-use mathlib.Core.Bool.{false}
 use mathlib.Core.Path.{refl, sym, ◌∙◌}
 use native.Mathlib.Omega.{arith}
 use native.Mathlib.Nat.{le_antisymm}
@@ -27,7 +25,7 @@ returns-then-counts-a c =
     (rw (← c.repeats.ensures) c.if-counts-a.true)))
 
 pub loop-a-preserved : goal.loop-a-preserved
-loop-a-preserved c =  (
+loop-a-preserved c = (
   omega arith,
   c.loop-a.invariant.1,
   any_still _ _ c.loop-a.invariant.2 (rw (← c.repeats.ensures) c.if-counts-a.false),

@@ -1,5 +1,5 @@
 -- Until a constant is misnamed, none before it is.
-use Prim.Native.Nat.{◌-◌, ◌≤◌}
+use Prim.Native.Nat.{◌≤◌}
 use Rattle.records.specs.Finite.{any}
 use Rattle.check_state.specs.Scan.{misnamed_at}
 use mathlib.Core.Bool.{false}

@@ -1,9 +1,7 @@
 -- Until an earlier constant clashes, none before it does.
-use Prim.Native.Nat.{◌-◌}
 use Rattle.records.proofs.General.FiniteLaws.{any_of_lem, any_still, any_zero}
 use Rattle.check_state.specs.Scan.{named_in}
 use Rattle.records.specs.State.{clashing, repeats}
-use mathlib.Core.Bool.{false}
 use mathlib.Core.Path.{sym}
 use native.Mathlib.Omega.{arith}
 use native.Mathlib.Nat.{le_antisymm}

@@ -1,5 +1,5 @@
 -- Until an earlier constant clashes, none before it does.
-use Prim.Native.Nat.{◌-◌, ◌≤◌}
+use Prim.Native.Nat.{◌≤◌}
 use Rattle.records.specs.Finite.{any}
 use Rattle.check_state.specs.Scan.{named_in}
 use Rattle.records.specs.State.{clashing}

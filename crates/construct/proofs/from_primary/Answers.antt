@@ -32,4 +32,4 @@ pub returns : goal.returns
 returns c = let (ok, closed, size) = c.requires in
     let ground = c.lay-ground.ensures in
     let edges = c.renumber.ensures in
-    record { arrays = arrays_by _ _ _ ok _ _ _ _ _ (laid_by closed ground edges) _ _ c.walks-made.ensures _ c.count_objects-total.ensures; kept = search rules; }
+    record { arrays = arrays_by _ _ _ ok _ _ _ _ _ (laid_by closed ground edges) _ _ c.walks-made.ensures _ c.count_objects-total.ensures; kept = search rules }

@@ -4,7 +4,6 @@ use Rattle.records.proofs.General.FiniteLaws.{any_zero, any_more}
 use Rattle.records.specs.Finite.{any}
 use native.Mathlib.Nat.{le_antisymm}
 use mathlib.Core.Path.{sym, ap, ◌∙◌}
-use Prim.Native.Nat.{◌-◌}
 use native.Mathlib.Omega.{arith}
 use Rattle.evaluate.proofs.has_common.Goals as goal
 

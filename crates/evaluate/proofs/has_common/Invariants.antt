@@ -2,7 +2,7 @@
 use Rattle.evaluate.specs.Relations.{common_at}
 use Rattle.records.specs.Finite.{any}
 use mathlib.Core.Path.{◌≡◌}
-use Prim.Native.Nat.{◌≤◌, ◌-◌}
+use Prim.Native.Nat.{◌≤◌}
 use Rattle.evaluate.proofs.has_common.Given as goal
 
 abbrev pub invariant-loop-i : goal.invariant-loop-i

@@ -1,9 +1,7 @@
 -- Each loop has passed tests that did not apply (Passed of SearchLaws): the search, broken axioms; the loops inside it,
 -- objects and facts that break the axiom at hand. Facts before the row that the axiom asks about cannot break it, nor can
 -- those after it.
-use Prim.Native.Nat.{◌-◌}
 use mathlib.Core.Path.{refl, sym, ◌∙◌}
-use Rattle.legality.specs.Breaks.{object_breaks, pair_breaks}
 use Rattle.legality.proofs.SearchLaws.{passed_none, passed_more, passed_all, AtHand, axiom_named, object_inside, object_first, kinds, few_facts, pair_first, row_begins, axiom_kept, none_first}
 use native.Mathlib.Omega.{arith}
 use Rattle.legality.proofs.first_broken.Goals as goal
@@ -15,7 +13,19 @@ pub loop-d-init : goal.loop-d-init
 loop-d-init c = passed_none _ c.search.invariant.kept
 
 pub object_breaks-requires : goal.object_breaks-requires
-object_breaks-requires c = (axiom_named (let h : AtHand     c.args.s     c.args.schema.now     c.args.state.now     c.args.seen.now     c.axioms-n.result c.objects-objects.result c.search.i c.axiom_at-a.result c.objects_asked-asked.result = record {
+object_breaks-requires c = (
+  axiom_named (let h : AtHand c.args.s c.args.schema.now c.args.state.now c.args.seen.now c.axioms-n.result c.objects-objects.result c.search.i c.axiom_at-a.result c.objects_asked-asked.result = record {
+    judged = c.requires;
+    axioms = c.axioms-n.ensures.value;
+    objects = c.objects-objects.ensures.value;
+    is = c.axiom_at-a.ensures;
+    asks = c.objects_asked-asked.ensures;
+    here = c.search-test.true;
+    earlier = c.search.invariant.none;
+  } in h),
+  omega (
+    arith,
+    object_inside (let h : AtHand c.args.s c.args.schema.now c.args.state.now c.args.seen.now c.axioms-n.result c.objects-objects.result c.search.i c.axiom_at-a.result c.objects_asked-asked.result = record {
       judged = c.requires;
       axioms = c.axioms-n.ensures.value;
       objects = c.objects-objects.ensures.value;
@@ -23,56 +33,51 @@ object_breaks-requires c = (axiom_named (let h : AtHand     c.args.s     c.args.
       asks = c.objects_asked-asked.ensures;
       here = c.search-test.true;
       earlier = c.search.invariant.none;
-    } in h), omega (arith, object_inside (let h : AtHand     c.args.s     c.args.schema.now     c.args.state.now     c.args.seen.now     c.axioms-n.result c.objects-objects.result c.search.i c.axiom_at-a.result c.objects_asked-asked.result = record {
-      judged = c.requires;
-      axioms = c.axioms-n.ensures.value;
-      objects = c.objects-objects.ensures.value;
-      is = c.axiom_at-a.ensures;
-      asks = c.objects_asked-asked.ensures;
-      here = c.search-test.true;
-      earlier = c.search.invariant.none;
-    } in h) _ c.loop-d-test.true, c.objects-objects.ensures.word))
+    } in h) _ c.loop-d-test.true,
+    c.objects-objects.ensures.word,
+  ),
+)
 
 pub loop-d-preserved : goal.loop-d-preserved
 loop-d-preserved c =
     passed_more _ c.loop-d.invariant (sym c.object_breaks.ensures ∙ c.if-object_breaks.false) c.loop-d.invariant.kept
 
 pub kind_asked-kind-requires : goal.kind_asked-kind-requires
-kind_asked-kind-requires c = axiom_named (let h : AtHand     c.args.s     c.args.schema.now     c.args.state.now     c.args.seen.now     c.axioms-n.result c.objects-objects.result c.search.i c.axiom_at-a.result c.objects_asked-asked.result = record {
-      judged = c.requires;
-      axioms = c.axioms-n.ensures.value;
-      objects = c.objects-objects.ensures.value;
-      is = c.axiom_at-a.ensures;
-      asks = c.objects_asked-asked.ensures;
-      here = c.search-test.true;
-      earlier = c.search.invariant.none;
-    } in h)
+kind_asked-kind-requires c = axiom_named (let h : AtHand c.args.s c.args.schema.now c.args.state.now c.args.seen.now c.axioms-n.result c.objects-objects.result c.search.i c.axiom_at-a.result c.objects_asked-asked.result = record {
+  judged = c.requires;
+  axioms = c.axioms-n.ensures.value;
+  objects = c.objects-objects.ensures.value;
+  is = c.axiom_at-a.ensures;
+  asks = c.objects_asked-asked.ensures;
+  here = c.search-test.true;
+  earlier = c.search.invariant.none;
+} in h)
 
 pub first_of_kind-from-requires : goal.first_of_kind-from-requires
-first_of_kind-from-requires c = kinds (let h : AtHand     c.args.s     c.args.schema.now     c.args.state.now     c.args.seen.now     c.axioms-n.result c.objects-objects.result c.search.i c.axiom_at-a.result c.objects_asked-asked.result = record {
-      judged = c.requires;
-      axioms = c.axioms-n.ensures.value;
-      objects = c.objects-objects.ensures.value;
-      is = c.axiom_at-a.ensures;
-      asks = c.objects_asked-asked.ensures;
-      here = c.search-test.true;
-      earlier = c.search.invariant.none;
-    } in h)
+first_of_kind-from-requires c = kinds (let h : AtHand c.args.s c.args.schema.now c.args.state.now c.args.seen.now c.axioms-n.result c.objects-objects.result c.search.i c.axiom_at-a.result c.objects_asked-asked.result = record {
+  judged = c.requires;
+  axioms = c.axioms-n.ensures.value;
+  objects = c.objects-objects.ensures.value;
+  is = c.axiom_at-a.ensures;
+  asks = c.objects_asked-asked.ensures;
+  here = c.search-test.true;
+  earlier = c.search.invariant.none;
+} in h)
 
 pub first_of_kind-to-requires : goal.first_of_kind-to-requires
-first_of_kind-to-requires c = kinds (let h : AtHand     c.args.s     c.args.schema.now     c.args.state.now     c.args.seen.now     c.axioms-n.result c.objects-objects.result c.search.i c.axiom_at-a.result c.objects_asked-asked.result = record {
-      judged = c.requires;
-      axioms = c.axioms-n.ensures.value;
-      objects = c.objects-objects.ensures.value;
-      is = c.axiom_at-a.ensures;
-      asks = c.objects_asked-asked.ensures;
-      here = c.search-test.true;
-      earlier = c.search.invariant.none;
-    } in h)
+first_of_kind-to-requires c = kinds (let h : AtHand c.args.s c.args.schema.now c.args.state.now c.args.seen.now c.axioms-n.result c.objects-objects.result c.search.i c.axiom_at-a.result c.objects_asked-asked.result = record {
+  judged = c.requires;
+  axioms = c.axioms-n.ensures.value;
+  objects = c.objects-objects.ensures.value;
+  is = c.axiom_at-a.ensures;
+  asks = c.objects_asked-asked.ensures;
+  here = c.search-test.true;
+  earlier = c.search.invariant.none;
+} in h)
 
 pub loop-f-init : goal.loop-f-init
 loop-f-init c =
-    row_begins (let h : AtHand     c.args.s     c.args.schema.now     c.args.state.now     c.args.seen.now     c.axioms-n.result c.objects-objects.result c.search.i c.axiom_at-a.result c.objects_asked-asked.result = record {
+    row_begins (let h : AtHand c.args.s c.args.schema.now c.args.state.now c.args.seen.now c.axioms-n.result c.objects-objects.result c.search.i c.axiom_at-a.result c.objects_asked-asked.result = record {
       judged = c.requires;
       axioms = c.axioms-n.ensures.value;
       objects = c.objects-objects.ensures.value;
@@ -83,7 +88,21 @@ loop-f-init c =
     } in h) c.kind_asked-kind.ensures.value c.first_of_kind-from.ensures c.loop-d.invariant.kept
 
 pub pair_breaks-requires : goal.pair_breaks-requires
-pair_breaks-requires c = (axiom_named (let h : AtHand     c.args.s     c.args.schema.now     c.args.state.now     c.args.seen.now     c.axioms-n.result c.objects-objects.result c.search.i c.axiom_at-a.result c.objects_asked-asked.result = record {
+pair_breaks-requires c = (
+  axiom_named (let h : AtHand c.args.s c.args.schema.now c.args.state.now c.args.seen.now c.axioms-n.result c.objects-objects.result c.search.i c.axiom_at-a.result c.objects_asked-asked.result = record {
+    judged = c.requires;
+    axioms = c.axioms-n.ensures.value;
+    objects = c.objects-objects.ensures.value;
+    is = c.axiom_at-a.ensures;
+    asks = c.objects_asked-asked.ensures;
+    here = c.search-test.true;
+    earlier = c.search.invariant.none;
+  } in h),
+  omega (
+    arith,
+    c.loop-f-test.true,
+    c.first_of_kind-to.ensures.within,
+    few_facts (let h : AtHand c.args.s c.args.schema.now c.args.state.now c.args.seen.now c.axioms-n.result c.objects-objects.result c.search.i c.axiom_at-a.result c.objects_asked-asked.result = record {
       judged = c.requires;
       axioms = c.axioms-n.ensures.value;
       objects = c.objects-objects.ensures.value;
@@ -91,15 +110,9 @@ pair_breaks-requires c = (axiom_named (let h : AtHand     c.args.s     c.args.sc
       asks = c.objects_asked-asked.ensures;
       here = c.search-test.true;
       earlier = c.search.invariant.none;
-    } in h), omega (arith, c.loop-f-test.true, c.first_of_kind-to.ensures.within, few_facts (let h : AtHand     c.args.s     c.args.schema.now     c.args.state.now     c.args.seen.now     c.axioms-n.result c.objects-objects.result c.search.i c.axiom_at-a.result c.objects_asked-asked.result = record {
-      judged = c.requires;
-      axioms = c.axioms-n.ensures.value;
-      objects = c.objects-objects.ensures.value;
-      is = c.axiom_at-a.ensures;
-      asks = c.objects_asked-asked.ensures;
-      here = c.search-test.true;
-      earlier = c.search.invariant.none;
-    } in h)))
+    } in h),
+  ),
+)
 
 pub loop-f-preserved : goal.loop-f-preserved
 loop-f-preserved c =
@@ -108,7 +121,7 @@ loop-f-preserved c =
 pub search-preserved : goal.search-preserved
 search-preserved c =
     passed_more _ c.search.invariant
-    (axiom_kept (let h : AtHand     c.args.s     c.args.schema.now     c.args.state.now     c.args.seen.now     c.axioms-n.result c.objects-objects.result c.search.i c.axiom_at-a.result c.objects_asked-asked.result = record {
+    (axiom_kept (let h : AtHand c.args.s c.args.schema.now c.args.state.now c.args.seen.now c.axioms-n.result c.objects-objects.result c.search.i c.axiom_at-a.result c.objects_asked-asked.result = record {
       judged = c.requires;
       axioms = c.axioms-n.ensures.value;
       objects = c.objects-objects.ensures.value;
@@ -127,7 +140,7 @@ returns-after-search c =
 
 pub returns-then-object_breaks : goal.returns-then-object_breaks
 returns-then-object_breaks c =
-    object_first (let h : AtHand     c.args.s     c.args.schema.now     c.args.state.now     c.args.seen.now     c.axioms-n.result c.objects-objects.result c.search.i c.axiom_at-a.result c.objects_asked-asked.result = record {
+    object_first (let h : AtHand c.args.s c.args.schema.now c.args.state.now c.args.seen.now c.axioms-n.result c.objects-objects.result c.search.i c.axiom_at-a.result c.objects_asked-asked.result = record {
       judged = c.requires;
       axioms = c.axioms-n.ensures.value;
       objects = c.objects-objects.ensures.value;
@@ -139,7 +152,7 @@ returns-then-object_breaks c =
 
 pub returns-then-pair_breaks : goal.returns-then-pair_breaks
 returns-then-pair_breaks c =
-    pair_first (let h : AtHand     c.args.s     c.args.schema.now     c.args.state.now     c.args.seen.now     c.axioms-n.result c.objects-objects.result c.search.i c.axiom_at-a.result c.objects_asked-asked.result = record {
+    pair_first (let h : AtHand c.args.s c.args.schema.now c.args.state.now c.args.seen.now c.axioms-n.result c.objects-objects.result c.search.i c.axiom_at-a.result c.objects_asked-asked.result = record {
       judged = c.requires;
       axioms = c.axioms-n.ensures.value;
       objects = c.objects-objects.ensures.value;

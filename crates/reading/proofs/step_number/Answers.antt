@@ -1,5 +1,4 @@
 -- The steps among the tokens passed.
-use Prim.Native.Nat.{◌-◌}
 use native.Mathlib.Omega.{arith}
 use native.Mathlib.Nat.{le_antisymm}
 use mathlib.Core.Path.{ap, ◌∙◌}
@@ -16,7 +15,7 @@ pub overflow_add-number : goal.overflow_add-number
 overflow_add-number c = omega (arith, number_few c.args.words.now _ _ c.loop-i.invariant.1, byte_small c.is_step.result)
 
 pub loop-i-preserved : goal.loop-i-preserved
-loop-i-preserved c =  (
+loop-i-preserved c = (
   omega arith,
   number_more c.args.words.now _ _ _ c.loop-i.invariant.1 (c.is_step.ensures ∙ ap is_step c.token_at.ensures),
 )

@@ -1,5 +1,5 @@
 -- The steps among the tokens passed.
-use Prim.Native.Nat.{◌-◌, ◌≤◌}
+use Prim.Native.Nat.{◌≤◌}
 use mathlib.Core.Path.{◌≡◌}
 use Rattle.records.specs.Helpers.Reading.{step_number}
 use Rattle.reading.proofs.step_number.Given as goal

@@ -1,5 +1,4 @@
 -- The marks of the tokens passed.
-use Prim.Native.Nat.{◌-◌}
 use native.Mathlib.Omega.{arith}
 use native.Mathlib.Nat.{le_antisymm}
 use native.Mathlib.Numerals.{add-one}
@@ -15,7 +14,7 @@ pub token_at-requires : goal.token_at-requires
 token_at-requires c = omega (arith, c.tokens-n.ensures.word)
 
 pub loop-i-preserved : goal.loop-i-preserved
-loop-i-preserved c =  (
+loop-i-preserved c = (
   omega arith,
   rw (c.mark_of-marks.ensures, c.token_at.ensures, add-one) (marks_more _ _ c.loop-i.invariant.1),
 )

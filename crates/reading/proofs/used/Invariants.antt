@@ -1,5 +1,5 @@
 -- The marks of the tokens passed.
-use Prim.Native.Nat.{◌-◌, ◌≤◌}
+use Prim.Native.Nat.{◌≤◌}
 use mathlib.Core.Path.{◌≡◌}
 use Rattle.records.proofs.MarkLaws.{marks_before}
 use Rattle.reading.proofs.used.Given as goal

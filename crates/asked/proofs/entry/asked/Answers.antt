@@ -8,7 +8,7 @@ pub overflow_add-start : goal.overflow_add-start
 overflow_add-start c = omega (arith, c.word-start.ensures.word)
 
 pub concept-requires : goal.concept-requires
-concept-requires c = record { place = place_last c.args.schema.now c.args.query.now c.requires.accepted_schema c.requires.accepted_concept c.tokens.ensures.value c.word-start.ensures.value _ refl refl; has_concept = concept_last c.args.schema.now c.args.query.now c.requires.accepted_schema c.requires.accepted_concept c.tokens.ensures.value c.word-start.ensures.value; }
+concept-requires c = record { place = place_last c.args.schema.now c.args.query.now c.requires.accepted_schema c.requires.accepted_concept c.tokens.ensures.value c.word-start.ensures.value _ refl refl; has_concept = concept_last c.args.schema.now c.args.query.now c.requires.accepted_schema c.requires.accepted_concept c.tokens.ensures.value c.word-start.ensures.value }
 
 pub returns : goal.returns
 returns c =

@@ -38,15 +38,15 @@ common-start_of-middle-requires t c = omega (arith, place_small c.requires.place
 
 pub common-end_of-left-requires : goal.common-end_of-left-requires
 common-end_of-left-requires t c = let r = concept_reads c.args.query.now c.args.at _ c.requires.has_concept c.requires.at_value in
-    record { end_bound = place_small (place_below c.requires.place c.start_of-middle.ensures c.path-after.ensures); has_path = rw c.start_of-middle.ensures r.3; }
+    record { end_bound = place_small (place_below c.requires.place c.start_of-middle.ensures c.path-after.ensures); has_path = rw c.start_of-middle.ensures r.3 }
 
 pub common-end_of-right-requires : goal.common-end_of-right-requires
 common-end_of-right-requires t c = let r = concept_reads c.args.query.now c.args.at _ c.requires.has_concept c.requires.at_value in
-    record { end_bound = omega (arith, place_small c.requires.place); has_path = r.2; }
+    record { end_bound = omega (arith, place_small c.requires.place); has_path = r.2 }
 
 pub common-add_equation-joined-requires : goal.common-add_equation-joined-requires
 common-add_equation-joined-requires t c = let r = concept_reads c.args.query.now c.args.at _ c.requires.has_concept c.requires.at_value in
-    record { room = place_room (place_between c.requires.place c.start_of-middle.ensures c.path-after.ensures) (omega arith); left_lt_part = (omega (arith, left_small c.requires.place c.start_of-middle.ensures r.3 c.end_of-left.ensures), right_small c.requires.place r.2 c.end_of-right.ensures); }
+    record { room = place_room (place_between c.requires.place c.start_of-middle.ensures c.path-after.ensures) (omega arith); left_lt_part = (omega (arith, left_small c.requires.place c.start_of-middle.ensures r.3 c.end_of-left.ensures), right_small c.requires.place r.2 c.end_of-right.ensures) }
 
 pub common-path-requires : goal.common-path-requires
 common-path-requires t c =
@@ -68,7 +68,7 @@ concept-token_at-requires t c = omega (arith, place_small c.requires.place)
 pub concept-add_member-requires : goal.concept-add_member-requires
 concept-add_member-requires t c = let h = c.requires.has_concept in
     let q = sym c.token_at.ensures ∙ c.in-Class.is in
-    record { room = place_room c.requires.place (concept_some c.args.query.now _ h); class_lt_part = (omega (arith, token_named (concept_place c.requires.place h) q), omega (arith, c.requires.place.node)); }
+    record { room = place_room c.requires.place (concept_some c.args.query.now _ h); class_lt_part = (omega (arith, token_named (concept_place c.requires.place h) q), omega (arith, c.requires.place.node)) }
 
 pub concept-overflow_add-first : goal.concept-overflow_add-first
 concept-overflow_add-first t c =
@@ -79,7 +79,7 @@ concept-overflow_add-first t c =
 pub concept-add_equation-requires : goal.concept-add_equation-requires
 concept-add_equation-requires t c = let h = c.requires.has_concept in
     let q = sym c.token_at.ensures ∙ c.in-Constant.is in
-    record { room = place_room c.requires.place (concept_some c.args.query.now _ h); left_lt_part = (omega (arith, c.requires.place.node), omega (arith, token_named (concept_place c.requires.place h) q, c.requires.place.constants)); }
+    record { room = place_room c.requires.place (concept_some c.args.query.now _ h); left_lt_part = (omega (arith, c.requires.place.node), omega (arith, token_named (concept_place c.requires.place h) q, c.requires.place.constants)) }
 
 pub concept-both-requires : goal.concept-both-requires
 concept-both-requires t c =
@@ -102,7 +102,7 @@ concept-common-requires t c =
 pub concept-add_mark-requires : goal.concept-add_mark-requires
 concept-add_mark-requires t c = let h = c.requires.has_concept in
     let q = sym c.token_at.ensures ∙ c.in-Mark.is in
-    record { room = place_room c.requires.place (concept_some c.args.query.now _ h); mark_lt_max_marks = (token_named (concept_place c.requires.place h) q, omega (arith, c.requires.place.node)); }
+    record { room = place_room c.requires.place (concept_some c.args.query.now _ h); mark_lt_max_marks = (token_named (concept_place c.requires.place h) q, omega (arith, c.requires.place.node)) }
 
 pub concept-returns-in-Class : goal.concept-returns-in-Class
 concept-returns-in-Class t c =
@@ -190,11 +190,11 @@ step-start_of-middle-requires t c = omega (arith, place_small c.requires.place)
 
 pub step-end_of-origin-requires : goal.step-end_of-origin-requires
 step-end_of-origin-requires t c = let r = step_reads c.args.query.now c.args.step.at (direction_of c.args.step.backward) c.args.step.attribute c.requires.has_path c.requires.at_value in
-    record { end_bound = place_small (place_below c.requires.place c.start_of-middle.ensures c.concept-after.ensures); has_path = rw c.start_of-middle.ensures r.3; }
+    record { end_bound = place_small (place_below c.requires.place c.start_of-middle.ensures c.concept-after.ensures); has_path = rw c.start_of-middle.ensures r.3 }
 
 pub step-add_edge-led-requires : goal.step-add_edge-led-requires
 step-add_edge-led-requires t c = let r = step_reads c.args.query.now c.args.step.at (direction_of c.args.step.backward) c.args.step.attribute c.requires.has_path c.requires.at_value in
-    record { room = place_room (place_between c.requires.place c.start_of-middle.ensures c.concept-after.ensures) (omega arith); attribute_lt_part = (step_named c.requires.place c.args.step.backward c.requires.at_value, omega (arith, left_small c.requires.place c.start_of-middle.ensures r.3 c.end_of-origin.ensures), omega (arith, c.step_number-landing.ensures, place_number (place_earlier c.requires.place {d = c.args.step.at} (omega arith)))); }
+    record { room = place_room (place_between c.requires.place c.start_of-middle.ensures c.concept-after.ensures) (omega arith); attribute_lt_part = (step_named c.requires.place c.args.step.backward c.requires.at_value, omega (arith, left_small c.requires.place c.start_of-middle.ensures r.3 c.end_of-origin.ensures), omega (arith, c.step_number-landing.ensures, place_number (place_earlier c.requires.place {d = c.args.step.at} (omega arith)))) }
 
 pub step-path-requires : goal.step-path-requires
 step-path-requires t c =

@@ -1,5 +1,5 @@
 -- The table of the equations passed (Standing of TieLaws).
-use Prim.Native.Nat.{◌-◌, ◌≤◌}
+use Prim.Native.Nat.{◌≤◌}
 use Rattle.asked.proofs.TieLaws.{Standing}
 use Rattle.asked.proofs.ties.anchors.Given as goal
 

@@ -1,8 +1,7 @@
 -- The words passed are ties.
-use Prim.Native.Nat.{◌-◌}
 use native.Mathlib.Omega.{arith}
 use mathlib.Core.Path.{refl, ◌∙◌}
-use lib.ListN.{length, length-set}
+use lib.ListN.{length-set}
 use Rattle.records.proofs.General.Filling.{changed_more, changed_all}
 use Rattle.asked.specs.Marked.{tie_word}
 use Rattle.asked.proofs.ties.tie_all.Goals as goal
@@ -14,7 +13,7 @@ pub tie-requires : goal.tie-requires
 tie-requires c = c.requires
 
 pub loop-i-preserved : goal.loop-i-preserved
-loop-i-preserved c =  (
+loop-i-preserved c = (
   omega arith,
   rw c.tie.ensures (changed_more (tie_word c.args.nodes.now) _ _ _ (omega arith) c.loop-i.invariant.1),
   simp length-set c.loop-i.invariant.2,

@@ -1,5 +1,5 @@
 -- The words passed are ties.
-use Prim.Native.Nat.{◌-◌, ◌≤◌}
+use Prim.Native.Nat.{◌≤◌}
 use mathlib.Core.Path.{◌≡◌}
 use lib.ListN.{length}
 use Rattle.records.proofs.General.Filling.{changed}

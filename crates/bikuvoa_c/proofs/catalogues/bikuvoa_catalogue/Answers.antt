@@ -33,23 +33,39 @@ pub slice_bounds-put-end : goal.slice_bounds-put-end
 slice_bounds-put-end c = sym c.rows-held.ensures.size
 
 pub put-requires : goal.put-requires
-put-requires c = omega (arith, c.rows-held.ensures.size, (let h : (max_views ≤ length c.args.rows.now) × (max_views ≤ length c.args.order.now) = let e = or_false (ltb (length c.args.rows.now) max_views) (ltb (length c.args.order.now) max_views) c.if-rows-order.false in
-    (ltb-false (length c.args.rows.now) max_views e.0, ltb-false (length c.args.order.now) max_views e.1) in h).0)
+put-requires c = omega (
+  arith,
+  c.rows-held.ensures.size,
+  (let h : (max_views ≤ length c.args.rows.now) × (max_views ≤ length c.args.order.now) = let e = or_false (ltb (length c.args.rows.now) max_views) (ltb (length c.args.order.now) max_views) c.if-rows-order.false in
+      (ltb-false (length c.args.rows.now) max_views e.0, ltb-false (length c.args.order.now) max_views e.1) in h).0,
+)
 
 pub slice_bounds-put-end-2 : goal.slice_bounds-put-end-2
 slice_bounds-put-end-2 c = sym c.arrange-arranged.ensures.sets.size
 
 pub put-requires-2 : goal.put-requires-2
-put-requires-2 c = omega (arith, c.arrange-arranged.ensures.sets.size, (let h : (max_views ≤ length c.args.rows.now) × (max_views ≤ length c.args.order.now) = let e = or_false (ltb (length c.args.rows.now) max_views) (ltb (length c.args.order.now) max_views) c.if-rows-order.false in
-    (ltb-false (length c.args.rows.now) max_views e.0, ltb-false (length c.args.order.now) max_views e.1) in h).1)
+put-requires-2 c = omega (
+  arith,
+  c.arrange-arranged.ensures.sets.size,
+  (let h : (max_views ≤ length c.args.rows.now) × (max_views ≤ length c.args.order.now) = let e = or_false (ltb (length c.args.rows.now) max_views) (ltb (length c.args.order.now) max_views) c.if-rows-order.false in
+      (ltb-false (length c.args.rows.now) max_views e.0, ltb-false (length c.args.order.now) max_views e.1) in h).1,
+)
 
 pub shape_of-rows : goal.shape_of-rows
-shape_of-rows c = ap length c.put.ensures ∙ copied_length c.rows-held.result c.args.rows.now (omega (arith, c.rows-held.ensures.size, (let h : (max_views ≤ length c.args.rows.now) × (max_views ≤ length c.args.order.now) = let e = or_false (ltb (length c.args.rows.now) max_views) (ltb (length c.args.order.now) max_views) c.if-rows-order.false in
-    (ltb-false (length c.args.rows.now) max_views e.0, ltb-false (length c.args.order.now) max_views e.1) in h).0))
+shape_of-rows c = ap length c.put.ensures ∙ copied_length c.rows-held.result c.args.rows.now (omega (
+  arith,
+  c.rows-held.ensures.size,
+  (let h : (max_views ≤ length c.args.rows.now) × (max_views ≤ length c.args.order.now) = let e = or_false (ltb (length c.args.rows.now) max_views) (ltb (length c.args.order.now) max_views) c.if-rows-order.false in
+      (ltb-false (length c.args.rows.now) max_views e.0, ltb-false (length c.args.order.now) max_views e.1) in h).0,
+))
 
 pub shape_of-order : goal.shape_of-order
-shape_of-order c = ap length c.put-2.ensures ∙ copied_length c.arrange-arranged.result.groups c.args.order.now (omega (arith, c.arrange-arranged.ensures.sets.size, (let h : (max_views ≤ length c.args.rows.now) × (max_views ≤ length c.args.order.now) = let e = or_false (ltb (length c.args.rows.now) max_views) (ltb (length c.args.order.now) max_views) c.if-rows-order.false in
-    (ltb-false (length c.args.rows.now) max_views e.0, ltb-false (length c.args.order.now) max_views e.1) in h).1))
+shape_of-order c = ap length c.put-2.ensures ∙ copied_length c.arrange-arranged.result.groups c.args.order.now (omega (
+  arith,
+  c.arrange-arranged.ensures.sets.size,
+  (let h : (max_views ≤ length c.args.rows.now) × (max_views ≤ length c.args.order.now) = let e = or_false (ltb (length c.args.rows.now) max_views) (ltb (length c.args.order.now) max_views) c.if-rows-order.false in
+      (ltb-false (length c.args.rows.now) max_views e.0, ltb-false (length c.args.order.now) max_views e.1) in h).1,
+))
 
 pub returns : goal.returns
 returns c =

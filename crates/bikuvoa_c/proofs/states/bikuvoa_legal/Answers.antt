@@ -9,4 +9,4 @@ pub legal_writes-requires : goal.legal_writes-requires
 legal_writes-requires c = subst LegalFits (sym c.legal-answer.ensures) (legal_fits c.args.schema.now c.args.state.now)
 
 pub returns : goal.returns
-returns c = let answer = c.legal-answer.ensures in record { returned = c.legal_returns.ensures ∙ ap legal_returns answer; written = c.legal_writes.ensures ∙ ap (λ (a : LegalAnswer). legal_writes a c.args.broken.now) answer; }
+returns c = let answer = c.legal-answer.ensures in record { returned = c.legal_returns.ensures ∙ ap legal_returns answer; written = c.legal_writes.ensures ∙ ap (λ (a : LegalAnswer). legal_writes a c.args.broken.now) answer }

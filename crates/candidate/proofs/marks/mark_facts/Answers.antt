@@ -1,5 +1,5 @@
 -- The marks passed have their objects.
-use Prim.Native.Nat.{ℕ, ◌-◌}
+use Prim.Native.Nat.{ℕ}
 use native.Mathlib.Nat.{le_antisymm}
 use native.Mathlib.Omega.{arith}
 use mathlib.Core.Bool.{Bool}
@@ -35,7 +35,7 @@ put_if-at-requires c =
     (turn_room _ _ _ _ _ _ _ c.loop-k-test.true c.requires.room c.loop-k.invariant.1)
 
 pub loop-k-preserved : goal.loop-k-preserved
-loop-k-preserved c =  (
+loop-k-preserved c = (
   omega arith,
   turn_more _ _ _ _ _ _ _ _ c.loop-k.invariant.1
       (wrote_as _ _ _ _ _ _

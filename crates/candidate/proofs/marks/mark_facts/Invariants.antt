@@ -1,5 +1,5 @@
 -- The marks passed have their objects.
-use Prim.Native.Nat.{◌-◌, ◌≤◌}
+use Prim.Native.Nat.{◌≤◌}
 use Rattle.records.specs.Layout.{max_marks}
 use Rattle.chase.specs.Written.{gather}
 use Rattle.candidate.specs.Facts.{mark_row}

@@ -1,5 +1,4 @@
 -- The objects passed are written.
-use Prim.Native.Nat.{◌-◌}
 use native.Mathlib.Nat.{le_antisymm}
 use native.Mathlib.Omega.{arith}
 use mathlib.Core.List.{[]}
@@ -26,7 +25,7 @@ put_if-at-requires c =
     (turn_room _ _ _ _ _ _ _ c.loop-d-test.true c.requires.room c.loop-d.invariant.1)
 
 pub loop-d-preserved : goal.loop-d-preserved
-loop-d-preserved c =  (
+loop-d-preserved c = (
   omega arith,
   turn_more _ _ _ _ _ _ _ _ c.loop-d.invariant.1
       (wrote_as _ _ _ _ _ _

@@ -1,5 +1,5 @@
 -- The objects passed are written.
-use Prim.Native.Nat.{◌-◌, ◌≤◌}
+use Prim.Native.Nat.{◌≤◌}
 use mathlib.Core.List.{[]}
 use Rattle.records.specs.SchemaRecord.{schema_of}
 use Rattle.chase.specs.Written.{gather, class_facts}

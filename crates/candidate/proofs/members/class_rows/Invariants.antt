@@ -1,5 +1,5 @@
 -- The classes passed are written.
-use Prim.Native.Nat.{◌-◌, ◌≤◌}
+use Prim.Native.Nat.{◌≤◌}
 use Rattle.chase.specs.Written.{gather}
 use Rattle.candidate.specs.Facts.{members_in}
 use Rattle.candidate.specs.Writing.{Wrote}

@@ -1,5 +1,5 @@
 -- The constants passed are named.
-use Prim.Native.Nat.{ℕ, ◌-◌}
+use Prim.Native.Nat.{ℕ}
 use native.Mathlib.Nat.{le_antisymm}
 use native.Mathlib.Omega.{arith}
 use mathlib.Core.List.{[], ◌∷◌}
@@ -32,7 +32,7 @@ put_if-at-requires c =
     (turn_room _ _ _ _ _ _ _ c.loop-a-test.true c.requires.room c.loop-a.invariant.1)
 
 pub loop-a-preserved : goal.loop-a-preserved
-loop-a-preserved c =  (
+loop-a-preserved c = (
   omega arith,
   turn_more _ _ _ _ _ _ _ _ c.loop-a.invariant.1
       (wrote_as _ _ _ _ _ _ (ap (λ (f : ℕ). f ∷ []) (c.fact.ensures ∙ ap (name_fact _) c.object_of-d.ensures)) c.put_if-at.ensures),

@@ -1,5 +1,5 @@
 -- The constants passed are named.
-use Prim.Native.Nat.{◌-◌, ◌≤◌}
+use Prim.Native.Nat.{◌≤◌}
 use Rattle.chase.specs.Written.{gather}
 use Rattle.candidate.specs.Facts.{name_row}
 use Rattle.candidate.specs.Writing.{Wrote}

@@ -1,7 +1,5 @@
 -- No attribute passed is lacking.
-use Prim.Native.Nat.{◌-◌}
 use native.Mathlib.Omega.{arith}
-use mathlib.Core.Bool.{false}
 use mathlib.Core.Path.{sym, ap, ◌∙◌}
 use Rattle.records.proofs.General.FiniteLaws.{any_zero, any_still}
 use Rattle.records.specs.SchemaRecord.{schema_of}

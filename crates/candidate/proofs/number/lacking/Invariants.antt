@@ -1,5 +1,5 @@
 -- No attribute passed is lacking.
-use Prim.Native.Nat.{◌-◌, ◌≤◌}
+use Prim.Native.Nat.{◌≤◌}
 use mathlib.Core.Bool.{false}
 use mathlib.Core.Path.{◌≡◌}
 use Rattle.records.specs.Finite.{any}

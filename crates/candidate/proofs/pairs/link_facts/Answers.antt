@@ -1,5 +1,4 @@
 -- The objects passed are written where the query has the pair.
-use Prim.Native.Nat.{◌-◌}
 use native.Mathlib.Nat.{le_antisymm}
 use native.Mathlib.Omega.{arith}
 use mathlib.Core.Path.{ap₂}
@@ -22,7 +21,7 @@ put_if-at-requires c =
     (turn_room _ _ _ _ _ _ _ c.loop-e-test.true c.requires.room c.loop-e.invariant.1)
 
 pub loop-e-preserved : goal.loop-e-preserved
-loop-e-preserved c =  (
+loop-e-preserved c = (
   omega arith,
   turn_more _ _ _ _ _ _ _ _ c.loop-e.invariant.1
       (wrote_as _ _ _ _ _ _ (ap₂ fact_if (c.linked-link.ensures _ _) c.fact.ensures) c.put_if-at.ensures),

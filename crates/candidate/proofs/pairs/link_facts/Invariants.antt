@@ -1,5 +1,5 @@
 -- The objects passed are written where the query has the pair.
-use Prim.Native.Nat.{◌-◌, ◌≤◌}
+use Prim.Native.Nat.{◌≤◌}
 use mathlib.Core.List.{[]}
 use Rattle.chase.specs.Written.{gather}
 use Rattle.candidate.specs.Facts.{link_fact}

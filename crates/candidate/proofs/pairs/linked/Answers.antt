@@ -1,5 +1,4 @@
 -- Whether an edge passed is the pair.
-use Prim.Native.Nat.{◌-◌}
 use native.Mathlib.Omega.{arith}
 use Rattle.candidate.proofs.PairLaws.{linked_none, linked_more, linked_all}
 use Rattle.candidate.proofs.pairs.linked.Goals as goal

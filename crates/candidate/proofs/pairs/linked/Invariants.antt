@@ -1,5 +1,5 @@
 -- Whether an edge passed is the pair.
-use Prim.Native.Nat.{◌-◌, ◌≤◌}
+use Prim.Native.Nat.{◌≤◌}
 use mathlib.Core.Path.{◌≡◌}
 use Rattle.candidate.proofs.PairLaws.{linked_by}
 use Rattle.candidate.proofs.pairs.linked.Given as goal

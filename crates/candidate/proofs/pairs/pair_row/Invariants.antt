@@ -1,5 +1,5 @@
 -- The objects passed are written.
-use Prim.Native.Nat.{◌-◌, ◌≤◌}
+use Prim.Native.Nat.{◌≤◌}
 use Rattle.records.specs.SchemaRecord.{schema_of}
 use Rattle.chase.specs.Written.{gather, pair_facts}
 use Rattle.candidate.specs.Writing.{Wrote}

@@ -1,5 +1,4 @@
 -- The attributes passed are written.
-use Prim.Native.Nat.{◌-◌}
 use native.Mathlib.Nat.{le_antisymm}
 use native.Mathlib.Omega.{arith}
 use Rattle.candidate.proofs.WriteLaws.{turn_none, turn_room, turn_more, turn_all}
@@ -9,7 +8,7 @@ pub loop-attribute-init : goal.loop-attribute-init
 loop-attribute-init c = (omega arith, turn_none _ _ _)
 
 pub pair_row-at-requires : goal.pair_row-at-requires
-pair_row-at-requires c = record { sized = (c.requires.sized.0, omega (arith, c.requires.sized.1)); room = turn_room _ _ _ _ _ _ _ c.loop-attribute-test.true c.requires.room c.loop-attribute.invariant.1; }
+pair_row-at-requires c = record { sized = (c.requires.sized.0, omega (arith, c.requires.sized.1)); room = turn_room _ _ _ _ _ _ _ c.loop-attribute-test.true c.requires.room c.loop-attribute.invariant.1 }
 
 pub loop-attribute-preserved : goal.loop-attribute-preserved
 loop-attribute-preserved c = (omega arith, turn_more _ _ _ _ _ _ _ _ c.loop-attribute.invariant.1 c.pair_row-at.ensures)

@@ -16,7 +16,7 @@ pub classes_of-classes-requires : goal.classes_of-classes-requires
 classes_of-classes-requires c = c.requires
 
 pub returns-then-not-unmet : goal.returns-then-not-unmet
-returns-then-not-unmet c =  λ edges P u.
+returns-then-not-unmet c = λ edges P u.
     value_else _ _ _ P _ false (omega (arith, u.value, c.if-made-gt0.false))
     (sym c.if-not-unmet.true
     ∙ lacks_is _ _ _ P _ _ _ _ _ _ c.unmet.ensures (c.classes_of-classes.ensures edges) u)
@@ -25,7 +25,7 @@ pub overflow_add-result : goal.overflow_add-result
 overflow_add-result c = omega (arith, c.requires.1.laid.fits)
 
 pub returns : goal.returns
-returns c =  λ edges P u.
+returns c = λ edges P u.
     add-one _ ∙ ap suc (sym (size_laid _ _ _ c.requires.1.laid c.args.objects.now edges))
     ∙ value_else _ _ _ P _ true (omega (arith, u.value, c.if-made-gt0.false))
     (sym c.if-not-unmet.false

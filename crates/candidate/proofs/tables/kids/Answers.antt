@@ -1,5 +1,4 @@
 -- The table of the objects passed.
-use Prim.Native.Nat.{◌-◌}
 use native.Mathlib.Nat.{le_antisymm}
 use native.Mathlib.Omega.{arith}
 use mathlib.Core.Path.{refl}
@@ -25,7 +24,7 @@ pub bounds-table-maker : goal.bounds-table-maker
 bounds-table-maker c = place_bound _ _ _ _ _ _ c.requires c.loop-e.invariant.0 c.loop-e-test.true c.parent-maker.ensures
 
 pub loop-e-preserved : goal.loop-e-preserved
-loop-e-preserved c =  (
+loop-e-preserved c = (
   omega arith,
   omega arith,
   kids_more _ _ _ _ _ _ c.requires c.loop-e.invariant.0 c.loop-e-test.true c.parent-maker.ensures _ c.loop-e.invariant.2,

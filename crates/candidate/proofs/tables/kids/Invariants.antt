@@ -1,5 +1,5 @@
 -- The table of the objects passed.
-use Prim.Native.Nat.{◌-◌, ◌≤◌}
+use Prim.Native.Nat.{◌≤◌}
 use Rattle.candidate.specs.Tables.{Kids}
 use Rattle.candidate.proofs.tables.kids.Given as goal
 

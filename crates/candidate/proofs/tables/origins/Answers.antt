@@ -1,5 +1,4 @@
 -- The table of the edges passed.
-use Prim.Native.Nat.{◌-◌}
 use native.Mathlib.Omega.{arith}
 use mathlib.Core.Path.{refl}
 use Rattle.candidate.proofs.TableLaws.{origins_none, origins_more, origins_all}
@@ -9,7 +8,7 @@ pub loop-i-init : goal.loop-i-init
 loop-i-init c = (omega arith, origins_none c.args.edges.now c.args.attribute _ refl)
 
 pub loop-i-preserved : goal.loop-i-preserved
-loop-i-preserved c =  (
+loop-i-preserved c = (
   omega arith,
   origins_more c.args.edges.now c.args.attribute _ _ _ c.wide-w.ensures c.loop-i-test.true c.loop-i.invariant.1,
 )

@@ -1,5 +1,5 @@
 -- The table of the edges passed.
-use Prim.Native.Nat.{◌-◌, ◌≤◌}
+use Prim.Native.Nat.{◌≤◌}
 use lib.ListN.{take}
 use Rattle.candidate.specs.Tables.{Origins}
 use Rattle.candidate.proofs.tables.origins.Given as goal

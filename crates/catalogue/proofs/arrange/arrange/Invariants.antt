@@ -1,5 +1,5 @@
 -- The groups before the k-th are found (Placed of ArrangeLaws).
-use Prim.Native.Nat.{◌-◌, ◌≤◌}
+use Prim.Native.Nat.{◌≤◌}
 use Rattle.catalogue.specs.Helpers.{in_row}
 use Rattle.catalogue.proofs.ArrangeLaws.{Placed}
 use Rattle.catalogue.proofs.arrange.arrange.Given as goal

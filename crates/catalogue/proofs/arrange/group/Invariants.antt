@@ -1,5 +1,5 @@
 -- The digits of the views passed are added up, each above those before it.
-use Prim.Native.Nat.{◌-◌, ◌≤◌}
+use Prim.Native.Nat.{◌≤◌}
 use mathlib.Core.Path.{◌≡◌}
 use Rattle.records.specs.Finite.{set_of}
 use Rattle.catalogue.specs.Order.{together}

@@ -1,11 +1,9 @@
 -- None of the views passed is ready.
-use Prim.Native.Nat.{◌-◌}
-use mathlib.Core.Bool.{false}
 use mathlib.Core.Path.{sym, ◌∙◌}
 use native.Mathlib.Nat.{le_antisymm}
 use native.Mathlib.Omega.{arith}
 use Rattle.records.proofs.General.FiniteLaws.{any_zero, any_still, any_none, least_is}
-use Rattle.catalogue.specs.Order.{ready, next}
+use Rattle.catalogue.specs.Order.{next}
 use Rattle.catalogue.proofs.arrange.next.Goals as goal
 
 pub loop-i-init : goal.loop-i-init

@@ -1,5 +1,5 @@
 -- The rows are filled one after the other (FilledLaws).
-use Prim.Native.Nat.{ℕ, ◌-◌}
+use Prim.Native.Nat.{ℕ}
 use native.Mathlib.Omega.{arith}
 use lib.ListN.{length-replicate, get_or-replicate}
 use Rattle.records.specs.Layout.{max_views}

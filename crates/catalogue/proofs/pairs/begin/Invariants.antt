@@ -1,5 +1,5 @@
 -- The rows are filled one after the other (FilledLaws).
-use Prim.Native.Nat.{◌-◌, ◌^◌, ◌≤◌}
+use Prim.Native.Nat.{◌^◌, ◌≤◌}
 use mathlib.Core.Path.{◌≡◌}
 use Rattle.records.specs.Layout.{max_views}
 use Rattle.catalogue.proofs.FilledLaws.{Filled}

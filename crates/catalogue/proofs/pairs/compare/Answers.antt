@@ -1,5 +1,4 @@
 -- The views passed are settled both ways (ComparedLaws).
-use Prim.Native.Nat.{◌-◌}
 use mathlib.Core.Path.{sym, ◌∙◌}
 use native.Mathlib.Omega.{arith}
 use Rattle.catalogue.proofs.ComparedLaws.{compared_none, compared_more}
@@ -27,4 +26,4 @@ pub shape_of-opens : goal.shape_of-opens
 shape_of-opens c = c.loop-k.invariant.1.grown.known.opens_size ∙ sym c.requires.0.opens_size
 
 pub returns : goal.returns
-returns c = let z = c.loop-k.invariant.1 in record { grown = z.grown; told = λ i h. z.told i h (omega (arith, c.loop-k-test.false)); }
+returns c = let z = c.loop-k.invariant.1 in record { grown = z.grown; told = λ i h. z.told i h (omega (arith, c.loop-k-test.false)) }

@@ -1,5 +1,5 @@
 -- The views passed are settled both ways (ComparedLaws).
-use Prim.Native.Nat.{◌-◌, ◌≤◌}
+use Prim.Native.Nat.{◌≤◌}
 use Rattle.catalogue.proofs.ComparedLaws.{Compared}
 use Rattle.catalogue.proofs.pairs.compare.Given as goal
 

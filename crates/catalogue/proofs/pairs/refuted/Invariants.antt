@@ -1,5 +1,5 @@
 -- None of the views passed refutes.
-use Prim.Native.Nat.{◌-◌, ◌≤◌}
+use Prim.Native.Nat.{◌≤◌}
 use mathlib.Core.Bool.{false, ◌&&◌}
 use mathlib.Core.Path.{◌≡◌}
 use lib.ListN.{get_or}

@@ -17,7 +17,7 @@ has-requires c =
     omega (arith, few_views _ _ c.requires.0.accepted, c.requires.2)
 
 pub returns-then-has : goal.returns-then-has
-returns-then-has c = record { grown = grown_same _ _ _ _ c.requires.0; told = or_left _ _ (sym c.has.ensures ∙ c.if-has.true); }
+returns-then-has c = record { grown = grown_same _ _ _ _ c.requires.0; told = or_left _ _ (sym c.has.ensures ∙ c.if-has.true) }
 
 pub ask-requires : goal.ask-requires
 ask-requires c = c.requires
@@ -33,7 +33,7 @@ shape_of-rows-then-ask c = c.add_held.ensures.size ∙ sym c.requires.0.size
 pub returns-then-ask : goal.returns-then-ask
 returns-then-ask c = let z = rw c.views.ensures.value at c.add_held.ensures in
     let told = c.ask.ensures.is_held.0 c.if-ask.true in
-    record { grown = grown_held _ _ _ _ c.requires.0 _ _ c.requires.1 c.requires.2 _ z told; told = held_settled _ _ _ _ c.requires.0 _ _ c.requires.1 c.requires.2 _ z; }
+    record { grown = grown_held _ _ _ _ c.requires.0 _ _ c.requires.1 c.requires.2 _ z told; told = held_settled _ _ _ _ c.requires.0 _ _ c.requires.1 c.requires.2 _ z }
 
 pub offset_bounds-opens-i : goal.offset_bounds-opens-i
 offset_bounds-opens-i c = omega (arith, few_views _ _ c.requires.0.accepted, c.requires.1)

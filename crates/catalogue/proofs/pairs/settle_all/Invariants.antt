@@ -1,5 +1,5 @@
 -- The views passed are compared with each other (ComparedLaws).
-use Prim.Native.Nat.{◌-◌, ◌≤◌}
+use Prim.Native.Nat.{◌≤◌}
 use Rattle.catalogue.proofs.ComparedLaws.{Met}
 use Rattle.catalogue.proofs.pairs.settle_all.Given as goal
 

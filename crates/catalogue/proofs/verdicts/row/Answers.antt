@@ -1,5 +1,4 @@
 -- The verdicts are filled in one after the other (FilledLaws).
-use Prim.Native.Nat.{◌-◌}
 use mathlib.Core.Path.{ap, ◌∙◌}
 use native.Mathlib.Omega.{arith}
 use lib.ListN.{length-replicate, get_or-replicate}

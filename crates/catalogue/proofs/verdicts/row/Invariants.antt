@@ -1,5 +1,5 @@
 -- The verdicts are filled in one after the other (FilledLaws).
-use Prim.Native.Nat.{◌-◌, ◌≤◌}
+use Prim.Native.Nat.{◌≤◌}
 use mathlib.Core.Path.{◌≡◌}
 use Rattle.records.specs.Finite.{bit}
 use Rattle.records.specs.Layout.{max_views}

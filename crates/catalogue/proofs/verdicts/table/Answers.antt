@@ -1,5 +1,4 @@
 -- The rows are filled in one after the other (FilledLaws).
-use Prim.Native.Nat.{◌-◌}
 use native.Mathlib.Nat.{le_antisymm}
 use native.Mathlib.Omega.{arith}
 use Rattle.catalogue.proofs.FilledLaws.{filled_more}

@@ -1,5 +1,5 @@
 -- The rows are filled in one after the other (FilledLaws).
-use Prim.Native.Nat.{◌-◌, ◌≤◌}
+use Prim.Native.Nat.{◌≤◌}
 use Rattle.catalogue.proofs.TableLaws.{Rowed}
 use Rattle.catalogue.proofs.verdicts.table.Given as goal
 

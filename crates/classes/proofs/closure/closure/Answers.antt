@@ -1,9 +1,7 @@
 -- A round changes nothing of the closure, and the closure of a set that stands still is that set.
-use Prim.Native.Nat.{◌-◌}
 use mathlib.Core.Path.{refl, sym, ◌∙◌}
 use native.Mathlib.Omega.{arith}
 use Rattle.records.specs.SchemaRecord.{schema_of}
-use Rattle.chase.specs.Axioms.{raise}
 use Rattle.chase.proofs.ClosureLaws.{closure_next, closure_stop}
 use Rattle.classes.proofs.SchemaLaws.{axioms_declared, raise_declared, raise_rises}
 use Rattle.classes.proofs.closure.closure.Goals as goal

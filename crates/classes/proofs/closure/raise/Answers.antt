@@ -1,9 +1,8 @@
 -- The set has been raised by the axioms passed.
-use Prim.Native.Nat.{◌-◌}
 use mathlib.Core.Path.{sym, subst, ◌∙◌}
 use native.Mathlib.Nat.{le_antisymm}
 use Rattle.records.specs.SchemaRecord.{schema_of}
-use Rattle.chase.specs.Axioms.{raise_by, raise}
+use Rattle.chase.specs.Axioms.{raise}
 use Rattle.records.specs.Helpers.InRange.{AxiomInRange}
 use Rattle.records.proofs.General.TurnLaws.{upto_none, upto_more, upto_all}
 use Rattle.records.proofs.AcceptedLaws.{axiom_in_range}

@@ -1,5 +1,5 @@
 -- The set has been raised by the axioms passed.
-use Prim.Native.Nat.{◌-◌, ◌≤◌}
+use Prim.Native.Nat.{◌≤◌}
 use lib.Bits.{bit_or}
 use mathlib.Core.Path.{◌≡◌}
 use Rattle.records.specs.SchemaRecord.{schema_of}

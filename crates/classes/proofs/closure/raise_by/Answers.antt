@@ -29,12 +29,12 @@ pub returns-in-Typing : goal.returns-in-Typing
 returns-in-Typing c = λ w d. search rules
 
 pub returns-then-has : goal.returns-then-has
-returns-then-has c =  λ w d.
+returns-then-has c = λ w d.
     d.sets _
     ∙ sym (necessary_raises _ _ _ _ _ true c.in-Necessary.is (sym c.if-has.true ∙ c.has-in-Necessary.ensures))
 
 pub returns-else-has : goal.returns-else-has
-returns-else-has c =  λ w d.
+returns-else-has c = λ w d.
     sym (necessary_raises _ _ _ _ _ false c.in-Necessary.is (sym c.if-has.false ∙ c.has-in-Necessary.ensures))
 
 pub returns-in-Single : goal.returns-in-Single

@@ -1,5 +1,5 @@
 -- The axioms passed have been collected.
-use Prim.Native.Nat.{◌-◌, ◌≤◌}
+use Prim.Native.Nat.{◌≤◌}
 use lib.Bits.{bit_or}
 use mathlib.Core.Path.{◌≡◌}
 use Rattle.records.specs.SchemaRecord.{schema_of}

@@ -1,8 +1,7 @@
 -- The axioms passed have been collected.
-use Prim.Native.Nat.{◌-◌}
 use mathlib.Core.Path.{sym, subst, ◌∙◌}
 use Rattle.records.specs.SchemaRecord.{schema_of}
-use Rattle.chase.specs.Axioms.{single_by, collect}
+use Rattle.chase.specs.Axioms.{collect}
 use Rattle.records.specs.Helpers.InRange.{AxiomInRange}
 use Rattle.records.proofs.General.TurnLaws.{upto_none, upto_more, upto_all}
 use native.Mathlib.Nat.{le_antisymm}

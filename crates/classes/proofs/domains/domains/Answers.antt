@@ -1,5 +1,4 @@
 -- The table of the axioms passed grows by the next axiom's entry (Filled of DomainLaws).
-use Prim.Native.Nat.{◌-◌}
 use mathlib.Core.Path.{refl, sym, ap, subst, ◌∙◌}
 use native.Mathlib.Nat.{le_antisymm}
 use native.Mathlib.Omega.{arith}
@@ -17,7 +16,7 @@ pub domain_entry-e-requires : goal.domain_entry-e-requires
 domain_entry-e-requires c = subst AxiomInRange (sym c.axiom_at.ensures) (axiom_in_range _ c.requires _ (omega arith))
 
 pub loop-i-preserved : goal.loop-i-preserved
-loop-i-preserved c =  (
+loop-i-preserved c = (
   omega arith,
   filled_more _ _ _ _ (c.domain_entry-e.ensures.0 ∙ ap entry_of c.axiom_at.ensures) c.domain_entry-e.ensures.1
       c.loop-i.invariant.1,

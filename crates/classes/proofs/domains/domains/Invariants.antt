@@ -1,5 +1,5 @@
 -- The table of the axioms passed grows by the next axiom's entry (Filled of DomainLaws).
-use Prim.Native.Nat.{◌-◌, ◌≤◌}
+use Prim.Native.Nat.{◌≤◌}
 use Rattle.classes.proofs.DomainLaws.{Filled}
 use Rattle.classes.proofs.domains.domains.Given as goal
 

@@ -11,7 +11,7 @@ candidate-made-requires c = let (ok, nodes) = c.requires in (ok, nodes, search r
 
 pub returns-then-made : goal.returns-then-made
 returns-then-made c = let held = clash_is_held _ _ _ c.requires.0 (sym c.candidate-made.ensures.clash_is ∙ c.if-made.true) in
-    record { told = told_held _ _ _ held; verdict = λ room. verdict_held _ _ _ _ held; }
+    record { told = told_held _ _ _ held; verdict = λ room. verdict_held _ _ _ _ held }
 
 pub slice_bounds-edges-end : goal.slice_bounds-edges-end
 slice_bounds-edges-end c = let built = c.candidate-made.ensures in omega (arith, built.count, built.room)
@@ -31,4 +31,4 @@ returns c = let built = c.candidate-made.ensures in
     let apart = sym built.clash_is ∙ c.if-made.false in
     let ok = c.requires.0 in
     let answer = c.answer_in.ensures in
-    record { told = rw answer.answered (told_by _ _ _ ok apart _ _ _ _ (built.arrays apart) built.marks); verdict = λ room. rw (answer.answered, answer.words) (verdict_by _ _ _ ok apart _ _ _ _ (built.arrays apart) built.marks _ room); }
+    record { told = rw answer.answered (told_by _ _ _ ok apart _ _ _ _ (built.arrays apart) built.marks); verdict = λ room. rw (answer.answered, answer.words) (verdict_by _ _ _ ok apart _ _ _ _ (built.arrays apart) built.marks _ room) }

@@ -1,8 +1,7 @@
 -- The words of the facts passed stand at the start.
-use Prim.Native.Nat.{◌-◌}
 use native.Mathlib.Omega.{arith}
 use mathlib.Core.Path.{refl}
-use lib.ListN.{length, length-set}
+use lib.ListN.{length-set}
 use Rattle.encoding.specs.Half.{word_of}
 use Rattle.records.proofs.General.Filling.{puts_more, puts_all}
 use Rattle.encoding.proofs.halves.put.Goals as goal
@@ -11,7 +10,7 @@ pub loop-i-init : goal.loop-i-init
 loop-i-init c = (omega arith, refl, refl)
 
 pub loop-i-preserved : goal.loop-i-preserved
-loop-i-preserved c =  (
+loop-i-preserved c = (
   omega arith,
   rw c.word_of.ensures (puts_more (word_of c.args.half) _ _ _ _ (omega arith) (omega arith) c.loop-i.invariant.1),
   simp length-set c.loop-i.invariant.2,

@@ -1,5 +1,5 @@
 -- The words of the facts passed stand at the start.
-use Prim.Native.Nat.{◌-◌, ◌≤◌}
+use Prim.Native.Nat.{◌≤◌}
 use mathlib.Core.Path.{◌≡◌}
 use lib.ListN.{length}
 use Rattle.encoding.specs.Half.{word_of}

@@ -1,13 +1,11 @@
 -- The class facts among the facts passed.
-use Prim.Native.Nat.{ℕ, ◌-◌}
+use Prim.Native.Nat.{ℕ}
 use native.Mathlib.Omega.{arith}
 use native.Mathlib.Nat.{le_antisymm}
-use mathlib.Core.Bool.{Bool}
-use mathlib.Core.List.{List}
 use mathlib.Core.Path.{◌≡◌, refl, ap, ◌∙◌}
-use lib.ListN.{length, get_or}
+use lib.ListN.{length}
 use Rattle.records.specs.Finite.{count}
-use Rattle.records.specs.Encoding.{class_fact, class_facts_in}
+use Rattle.records.specs.Encoding.{class_facts_in}
 use Rattle.records.proofs.General.BoolLaws.{byte_small}
 use Rattle.records.proofs.General.FiniteLaws.{count_le, count_turn}
 use Rattle.encoding.proofs.states.class_facts_in.Invariants.{at}
@@ -21,7 +19,7 @@ pub overflow_add-found : goal.overflow_add-found
 overflow_add-found c = omega (arith, c.loop-i.invariant.1, count_le (at c.args.facts.now) c.loop-i.i, byte_small c.class_fact.result)
 
 pub loop-i-preserved : goal.loop-i-preserved
-loop-i-preserved c =  (
+loop-i-preserved c = (
   omega arith,
   count_turn (at c.args.facts.now) _ _ _ c.loop-i.invariant.1 c.class_fact.ensures,
 )

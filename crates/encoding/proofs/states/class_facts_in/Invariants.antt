@@ -1,5 +1,5 @@
 -- The class facts among the facts passed.
-use Prim.Native.Nat.{◌-◌, ◌≤◌}
+use Prim.Native.Nat.{◌≤◌}
 use mathlib.Core.Path.{◌≡◌}
 use Rattle.records.specs.Finite.{count}
 use Prim.Native.Nat.{ℕ}

@@ -1,5 +1,5 @@
 -- The words passed stand at the start (puts of Filling, each word as it is).
-use Prim.Native.Nat.{ℕ, ◌-◌}
+use Prim.Native.Nat.{ℕ}
 use native.Mathlib.Omega.{arith}
 use mathlib.Core.List.{List, ◌++◌}
 use mathlib.Core.Path.{refl, ap, ◌∙◌}
@@ -14,7 +14,7 @@ pub bounds-lent-i : goal.bounds-lent-i
 bounds-lent-i c = omega (arith, c.loop-i.invariant.2, c.requires)
 
 pub loop-i-preserved : goal.loop-i-preserved
-loop-i-preserved c =  (
+loop-i-preserved c = (
   omega arith,
   puts_more as_is _ _ _ _ c.loop-i-test.true (omega (arith, c.requires)) c.loop-i.invariant.1,
   simp length-set c.loop-i.invariant.2,

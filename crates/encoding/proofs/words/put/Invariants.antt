@@ -1,5 +1,5 @@
 -- The words passed stand at the start (puts of Filling, each word as it is).
-use Prim.Native.Nat.{◌-◌, ◌≤◌}
+use Prim.Native.Nat.{◌≤◌}
 use mathlib.Core.Path.{◌≡◌}
 use lib.ListN.{length}
 use Rattle.records.proofs.General.Filling.{puts, as_is}

@@ -24,7 +24,7 @@ both-concept-first-requires t c =
     (omega (arith, c.decreases, e.start, start_le c.args.words.now c.args.at 1), (place_below c.requires.place e.landings.size e.size e.start, rw e.start r.3))
 
 pub both-shared_row-requires : goal.both-shared_row-requires
-both-shared_row-requires t c = record { set_words_in_bounds = omega (arith, c.concept-first.ensures.selection.size); set_words_in_bounds_2 = omega (arith, c.concept-last.ensures.selection.size); }
+both-shared_row-requires t c = record { set_words_in_bounds = omega (arith, c.concept-first.ensures.selection.size); set_words_in_bounds_2 = omega (arith, c.concept-last.ensures.selection.size) }
 
 pub both-returns : goal.both-returns
 both-returns t c =
@@ -47,7 +47,7 @@ common-meeting-requires t c = let r = concept_reads c.args.words.now c.args.at _
     let m = c.path-middle.ensures in
     let k = c.path-start.ensures in
     let z = c.requires.place in
-    record { walk = place_walk z (k.landings.size ∙ m.landings.size) (omega (arith, m.start, start_le c.args.words.now c.args.at 1)) (rw m.start r.3) k.landings.landed; walk_2 = last_walk z r.2 m k; state_in_bounds = omega (arith, k.size, m.size, z.relations c.args.at (omega arith) c.requires.at_value); rows_len_bound = omega (arith, k.size, m.size, z.few); }
+    record { walk = place_walk z (k.landings.size ∙ m.landings.size) (omega (arith, m.start, start_le c.args.words.now c.args.at 1)) (rw m.start r.3) k.landings.landed; walk_2 = last_walk z r.2 m k; state_in_bounds = omega (arith, k.size, m.size, z.relations c.args.at (omega arith) c.requires.at_value); rows_len_bound = omega (arith, k.size, m.size, z.few) }
 
 pub common-returns : goal.common-returns
 common-returns t c =
@@ -148,7 +148,7 @@ path-concept-landing-requires t c =
     (omega (arith, c.decreases, path_next c.args.words.now _ c.requires.has_path), (place_earlier p refl refl (omega arith), (step_read p (path_suc c.args.words.now _ c.requires.has_path) h).1))
 
 pub path-put-requires : goal.path-put-requires
-path-put-requires t c = record { set_words_in_bounds = omega (arith, c.concept-landing.ensures.landings.size, c.requires.place.room, c.requires.place.within, path_next c.args.words.now _ c.requires.has_path); set_len = c.concept-landing.ensures.selection.size; }
+path-put-requires t c = record { set_words_in_bounds = omega (arith, c.concept-landing.ensures.landings.size, c.requires.place.room, c.requires.place.within, path_next c.args.words.now _ c.requires.has_path); set_len = c.concept-landing.ensures.selection.size }
 
 pub path-path-requires : goal.path-path-requires
 path-path-requires t c =

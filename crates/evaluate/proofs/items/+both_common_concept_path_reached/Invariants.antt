@@ -1,7 +1,7 @@
 -- The span of tokens falls: an operand ends before its item does, and the measure is twice the place where the item ends.
 -- A token's own function stands between: its measure is one more than that of the operands that end at its place. Each answer
 -- cites what the token makes of its operands (PlaceLaws).
-use Prim.Native.Nat.{suc, ◌-◌, ◌*◌}
+use Prim.Native.Nat.{suc, ◌*◌}
 use Rattle.evaluate.proofs.items.+both_common_concept_path_reached.Given as goal
 
 abbrev pub decreases-both : goal.decreases-both

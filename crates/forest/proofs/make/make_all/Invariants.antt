@@ -1,5 +1,5 @@
 -- The objects passed have got their values.
-use Prim.Native.Nat.{◌-◌, ◌≤◌}
+use Prim.Native.Nat.{◌≤◌}
 use lib.ListN.{take}
 use Rattle.forest.specs.Kept.{Grows}
 use Rattle.forest.specs.Making.{made_all}

@@ -1,5 +1,4 @@
 -- No edge passed is asked for.
-use Prim.Native.Nat.{◌-◌}
 use native.Mathlib.Omega.{arith}
 use Rattle.forest.proofs.ReadLaws.{unasked_none, unasked_more, unasked_all, asked_here}
 use Rattle.forest.proofs.objects.asks.Goals as goal

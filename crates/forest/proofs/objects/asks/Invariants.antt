@@ -1,5 +1,5 @@
 -- No edge passed is asked for.
-use Prim.Native.Nat.{◌-◌, ◌≤◌}
+use Prim.Native.Nat.{◌≤◌}
 use Rattle.forest.proofs.ReadLaws.{Unasked}
 use Rattle.forest.proofs.objects.asks.Given as goal
 

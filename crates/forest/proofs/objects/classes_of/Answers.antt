@@ -9,7 +9,7 @@ pub classes_at-requires : goal.classes_at-requires
 classes_at-requires c = (c.requires.1.laid.room, omega (arith, c.requires.1.laid.fits), c.requires.1.sets _ c.if-d-n.true)
 
 pub returns-then-d-n : goal.returns-then-d-n
-returns-then-d-n c =  λ edges. c.classes_at.ensures ∙ sym (classes_laid (schema_of c.args.schema.now) _ _ _ c.requires.1.laid edges _ c.if-d-n.true)
+returns-then-d-n c = λ edges. c.classes_at.ensures ∙ sym (classes_laid (schema_of c.args.schema.now) _ _ _ c.requires.1.laid edges _ c.if-d-n.true)
 
 pub returns-else-d-n : goal.returns-else-d-n
-returns-else-d-n c =  λ edges. c.full.ensures ∙ sym (classes_closing (schema_of c.args.schema.now) _ _ _ c.requires.1.laid edges _ c.if-d-n.false)
+returns-else-d-n c = λ edges. c.full.ensures ∙ sym (classes_closing (schema_of c.args.schema.now) _ _ _ c.requires.1.laid edges _ c.if-d-n.false)

@@ -1,5 +1,5 @@
 -- The value found among the objects passed.
-use Prim.Native.Nat.{◌-◌, ◌≤◌}
+use Prim.Native.Nat.{◌≤◌}
 use Rattle.forest.proofs.ReadLaws.{Found}
 use Rattle.forest.proofs.objects.kid.Given as goal
 

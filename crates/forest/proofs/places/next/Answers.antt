@@ -1,5 +1,4 @@
 -- The list after the step, of the objects passed.
-use Prim.Native.Nat.{◌-◌}
 use native.Mathlib.Omega.{arith}
 use Rattle.forest.proofs.PlaceLaws.{follows_none, follows_more, follows_all}
 use Rattle.forest.proofs.places.next.Goals as goal

@@ -1,5 +1,5 @@
 -- The list after the step, of the objects passed.
-use Prim.Native.Nat.{◌-◌, ◌≤◌}
+use Prim.Native.Nat.{◌≤◌}
 use Rattle.forest.specs.Places.{Follows}
 use Rattle.forest.proofs.places.next.Given as goal
 

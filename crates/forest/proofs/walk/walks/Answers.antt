@@ -1,5 +1,4 @@
 -- The view has been walked from the objects passed.
-use Prim.Native.Nat.{◌-◌}
 use native.Mathlib.Omega.{arith}
 use Rattle.forest.proofs.RoundLaws.{rounds_none, round_walk, rounds_next, rounds_all}
 use Rattle.forest.proofs.walk.walks.Goals as goal

@@ -1,5 +1,5 @@
 -- The view has been walked from the objects passed.
-use Prim.Native.Nat.{◌-◌, ◌≤◌}
+use Prim.Native.Nat.{◌≤◌}
 use Rattle.records.specs.SchemaRecord.{schema_of}
 use Rattle.records.specs.ConceptRecord.{concept_of}
 use Rattle.ground.specs.Objects.{ground_in}

@@ -1,5 +1,4 @@
 -- The nodes passed are laid.
-use Prim.Native.Nat.{◌-◌}
 use native.Mathlib.Nat.{le_antisymm}
 use native.Mathlib.Omega.{arith}
 use mathlib.Core.Path.{◌∙◌, ap}
@@ -24,7 +23,7 @@ pub overflow_add-count : goal.overflow_add-count
 overflow_add-count c = omega (arith, grounds_room _ _ _ _ (omega arith) c.loop-i.invariant.1, byte_small c.live.result)
 
 pub loop-i-preserved : goal.loop-i-preserved
-loop-i-preserved c =  (
+loop-i-preserved c = (
   omega arith,
   grounds_more _ _ _ _ _ _ (omega arith) c.loop-i.invariant.1 (c.ground_word.ensures ∙ ap ground_word c.set_of.ensures) (c.live.ensures ∙ live_any _ _ _),
 )

@@ -1,5 +1,5 @@
 -- The nodes passed are laid.
-use Prim.Native.Nat.{◌-◌, ◌≤◌}
+use Prim.Native.Nat.{◌≤◌}
 use Rattle.primary.specs.Formed.{prime}
 use Rattle.ground.specs.Laying.{Grounds}
 use Rattle.ground.proofs.lay.lay.Given as goal

@@ -1,5 +1,5 @@
 -- The live nodes before the present one are counted.
-use Prim.Native.Nat.{◌-◌, ◌≤◌}
+use Prim.Native.Nat.{◌≤◌}
 use mathlib.Core.Path.{◌≡◌}
 use Rattle.records.specs.Finite.{count}
 use Rattle.ground.specs.Numbers.{live_in}

@@ -1,9 +1,8 @@
 -- The edges passed are renumbered.
-use Prim.Native.Nat.{◌-◌}
 use native.Mathlib.Omega.{arith}
 use mathlib.Core.List.{map}
 use mathlib.Core.Path.{refl, ap, ◌∙◌}
-use lib.ListN.{length, length-set}
+use lib.ListN.{length-set}
 use Rattle.records.proofs.General.Filling.{changed_more, changed_all}
 use Rattle.primary.specs.Words.{edge_of}
 use Rattle.ground.proofs.EdgeLaws.{edge_next, words_edges}
@@ -17,7 +16,7 @@ pub renumbered-requires : goal.renumbered-requires
 renumbered-requires c = (c.requires.0, c.requires.1, edge_next _ (renumber_word c.args.reps.now) c.args.edges.now _ _ c.loop-i-test.true c.requires.2 c.loop-i.invariant.1)
 
 pub loop-i-preserved : goal.loop-i-preserved
-loop-i-preserved c =  (
+loop-i-preserved c = (
   omega arith,
   rw c.renumbered.ensures (changed_more (renumber_word c.args.reps.now) _ _ _ (omega arith) c.loop-i.invariant.1),
   simp length-set c.loop-i.invariant.2,

@@ -1,6 +1,5 @@
 -- What lies before low is of a lower kind, and what lies from high on is not; the kinds rise, so one look at the middle
 -- settles the half before it or the half from it on.
-use Prim.Native.Nat.{◌-◌}
 use native.Mathlib.Omega.{arith}
 use Rattle.index.proofs.KindLaws.{parts_none, parts_low, parts_high, parts_met}
 use Rattle.index.proofs.kinds.first_of_kind.Goals as goal

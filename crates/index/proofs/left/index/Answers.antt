@@ -1,7 +1,5 @@
 -- The index of the facts passed grows by the next left word (Indexed of IndexLaws).
-use Prim.Native.Nat.{◌-◌}
 use mathlib.Core.Path.{◌≡◌, refl, ◌∙◌}
-use mathlib.Core.Logic.{⊎_elim}
 use native.Mathlib.Nat.{le_antisymm}
 use native.Mathlib.Omega.{arith}
 use Rattle.records.specs.Layout.{state_layout, left_at}
@@ -18,10 +16,13 @@ loop-i-preserved c =
     let z = c.loop-i.invariant.1 in
     let e : c.left-b.result ≡ left_at state_layout c.args.words.now c.loop-i.i =
     rw (← c.state_layout.ensures.value) c.left-b.ensures.value
-    in
-    (omega arith, elim c.if-b-lt-TABLE_BITS.branch [
-      then-b-lt-TABLE_BITS w ↦ rw w.seen-is (indexed_more _ z e w.insert.ensures) |
-      else-b-lt-TABLE_BITS w ↦ rw w.seen-is (indexed_past _ z e w.if-b-lt-TABLE_BITS.false) ])
+    in (
+      omega arith,
+      elim c.if-b-lt-TABLE_BITS.branch [
+        | then-b-lt-TABLE_BITS w ↦ rw w.seen-is (indexed_more _ z e w.insert.ensures)
+        | else-b-lt-TABLE_BITS w ↦ rw w.seen-is (indexed_past _ z e w.if-b-lt-TABLE_BITS.false)
+      ],
+    )
 
 pub returns : goal.returns
 returns c = indexed_all _ c.loop-i.invariant.1 (le_antisymm c.loop-i.invariant.0 c.loop-i-test.false ∙ c.facts-n.ensures.value)

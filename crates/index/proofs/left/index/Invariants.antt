@@ -1,5 +1,5 @@
 -- The index of the facts passed grows by the next left word (Indexed of IndexLaws).
-use Prim.Native.Nat.{◌-◌, ◌≤◌}
+use Prim.Native.Nat.{◌≤◌}
 use Rattle.index.proofs.IndexLaws.{Indexed}
 use Rattle.index.proofs.left.index.Given as goal
 

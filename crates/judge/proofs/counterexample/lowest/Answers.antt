@@ -1,7 +1,5 @@
 -- Until a number is in the one set and not in the other, none before it is.
-use Prim.Native.Nat.{◌-◌}
 use Rattle.judge.specs.Counterexample.{apart}
-use mathlib.Core.Bool.{false}
 use mathlib.Core.Path.{◌≡◌, sym}
 use native.Mathlib.Omega.{arith}
 use native.Mathlib.Nat.{le_antisymm, le_refl, le_of_lt}

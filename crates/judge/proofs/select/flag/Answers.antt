@@ -1,7 +1,6 @@
 -- What stands before the present place is flagged and counted.
-use Prim.Native.Nat.{◌-◌}
 use Rattle.judge.proofs.FlagLaws.{flags_more, flags_none}
-use lib.ListN.{length, length-set}
+use lib.ListN.{length-set}
 use mathlib.Core.Path.{◌≡◌, refl}
 use native.Mathlib.Omega.{arith}
 use native.Mathlib.Nat.{le_antisymm}
@@ -22,7 +21,7 @@ pub overflow_add-found : goal.overflow_add-found
 overflow_add-found c = omega (arith, count_le (bit_at c.args.set.now) c.loop-i.i, c.loop-i.invariant.2, byte_small c.has-here.result)
 
 pub loop-i-preserved : goal.loop-i-preserved
-loop-i-preserved c =  (
+loop-i-preserved c = (
   omega arith,
   simp length-set c.loop-i.invariant.1,
   count_turn (bit_at c.args.set.now) c.loop-i.i _ c.has-here.result c.loop-i.invariant.2 c.has-here.ensures,
@@ -34,4 +33,4 @@ shape_of-lent c = c.loop-i.invariant.1
 
 pub returns : goal.returns
 returns c = let e : c.loop-i.i ≡ c.args.n = le_antisymm c.loop-i.invariant.0 c.loop-i-test.false in
-    record { count = rw e at c.loop-i.invariant.2; words = rw e at c.loop-i.invariant.3; }
+    record { count = rw e at c.loop-i.invariant.2; words = rw e at c.loop-i.invariant.3 }

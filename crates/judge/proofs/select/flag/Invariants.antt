@@ -1,5 +1,5 @@
 -- What stands before the present place is flagged and counted.
-use Prim.Native.Nat.{◌-◌, ◌≤◌}
+use Prim.Native.Nat.{◌≤◌}
 use Rattle.judge.specs.Select.{flags}
 use lib.ListN.{drop, length}
 use mathlib.Core.Path.{◌≡◌}

@@ -55,5 +55,5 @@ returns c =
     rw (c.flag.ensures.count, c.flag.ensures.words, n)
     (selection_is (state_of c.args.state.now) (concept_of c.args.concept.now) c.args.lent.now c.evaluate-set.result c.evaluate-set.ensures
     (omega (arith, objects_few c.args.state.now (passes_7 _ _ (let h : AcceptedState (signature_of c.args.schema.now) c.args.state.now = rw (let h : (c.in-Accepted.s ≡ signature_of c.args.schema.now) × AcceptedSchema c.args.schema.now = schema_signature c.args.schema.now c.in-Accepted.s (sym c.check_schema-checked.ensures ∙ c.in-Accepted.is) in h).0 at (sym c.check_state-judged.ensures ∙ c.in-Accepted-judged.is) in h))))
-    ∙ (let h : objects c.args.state.now ≤ length c.args.lent.now     → selection (state_of c.args.state.now) (concept_of c.args.concept.now) c.args.lent.now ≡ select_outcome c.args.schema.now c.args.concept.now c.args.state.now c.args.lent.now = λ h. answered_at (refused_with c.args.lent.now) _ (select_refusals c.args.schema.now c.args.concept.now c.args.state.now c.args.lent.now)
+    ∙ (let h : objects c.args.state.now ≤ length c.args.lent.now → selection (state_of c.args.state.now) (concept_of c.args.concept.now) c.args.lent.now ≡ select_outcome c.args.schema.now c.args.concept.now c.args.state.now c.args.lent.now = λ h. answered_at (refused_with c.args.lent.now) _ (select_refusals c.args.schema.now c.args.concept.now c.args.state.now c.args.lent.now)
     (schema_passed _ (let h : (c.in-Accepted.s ≡ signature_of c.args.schema.now) × AcceptedSchema c.args.schema.now = schema_signature c.args.schema.now c.in-Accepted.s (sym c.check_schema-checked.ensures ∙ c.in-Accepted.is) in h).1, (plain_passed _ _ (let h : AcceptedConcept query_steps (signature_of c.args.schema.now) c.args.concept.now = plain_known c.args.schema.now c.args.concept.now (let h : (c.in-Accepted.s ≡ signature_of c.args.schema.now) × AcceptedSchema c.args.schema.now = schema_signature c.args.schema.now c.in-Accepted.s (sym c.check_schema-checked.ensures ∙ c.in-Accepted.is) in h).0 query_steps c.check_plain-read.ensures c.in-Accepted-read.is in h), (state_passed _ _ (let h : AcceptedState (signature_of c.args.schema.now) c.args.state.now = rw (let h : (c.in-Accepted.s ≡ signature_of c.args.schema.now) × AcceptedSchema c.args.schema.now = schema_signature c.args.schema.now c.in-Accepted.s (sym c.check_schema-checked.ensures ∙ c.in-Accepted.is) in h).0 at (sym c.check_state-judged.ensures ∙ c.in-Accepted-judged.is) in h), (lent_passed _ _ h, tt)))) in h) (omega (arith, n, c.if-lent-n.false)))

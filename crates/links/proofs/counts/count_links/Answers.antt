@@ -1,5 +1,4 @@
 -- The links among the facts passed are counted; before the row of the kind and after it there are none.
-use Prim.Native.Nat.{◌-◌}
 use mathlib.Core.Path.{◌∙◌}
 use native.Mathlib.Omega.{arith}
 use Rattle.records.proofs.General.FiniteLaws.{count_turn}
@@ -27,7 +26,7 @@ pub overflow_add-links : goal.overflow_add-links
 overflow_add-links c = omega (arith, links_few _ _ _ c.loop-i.invariant.2, c.loop-i.invariant.1, c.requires.few, byte_small c.is_link.result)
 
 pub loop-i-preserved : goal.loop-i-preserved
-loop-i-preserved c =  (
+loop-i-preserved c = (
   omega arith,
   omega (arith, c.loop-i-test.true, c.first_of_kind-to.ensures.within),
   count_turn (link_at _ _ _) _ _ c.is_link.result c.loop-i.invariant.2

@@ -1,5 +1,5 @@
 -- The links among the facts passed are counted; before the row of the kind and after it there are none.
-use Prim.Native.Nat.{◌-◌, ◌≤◌}
+use Prim.Native.Nat.{◌≤◌}
 use mathlib.Core.Path.{◌≡◌}
 use Rattle.records.specs.Finite.{count}
 use Rattle.records.specs.Layout.{state_layout, entries}

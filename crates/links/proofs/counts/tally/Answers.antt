@@ -1,5 +1,5 @@
 -- The counts of the facts passed (Tallied); before the row of the kind and after it there are no links.
-use Prim.Native.Nat.{◌-◌, ◌<◌}
+use Prim.Native.Nat.{◌<◌}
 use mathlib.Core.Path.{◌≡◌}
 use native.Mathlib.Omega.{arith}
 use Rattle.records.specs.Layout.{state_layout, right_at, max_objects}
@@ -23,8 +23,11 @@ pub right-second-requires : goal.right-second-requires
 right-second-requires c = omega (arith, c.state_layout.ensures.small, c.loop-i-test.true, c.first_of_kind-to.ensures.within, c.requires.few)
 
 pub offset_bounds-counts-second : goal.offset_bounds-counts-second
-offset_bounds-counts-second c = omega (arith, (let h : c.right-second.result < max_objects = rw (let h : c.right-second.result ≡ right_at state_layout c.args.state.now c.loop-i.i = rw (← c.state_layout.ensures.value) c.right-second.ensures.value in h)
-    (c.requires.inside _ (omega (arith, c.loop-i-test.true, c.first_of_kind-to.ensures.within))) in h))
+offset_bounds-counts-second c = omega (
+  arith,
+  (let h : c.right-second.result < max_objects = rw (let h : c.right-second.result ≡ right_at state_layout c.args.state.now c.loop-i.i = rw (← c.state_layout.ensures.value) c.right-second.ensures.value in h)
+      (c.requires.inside _ (omega (arith, c.loop-i-test.true, c.first_of_kind-to.ensures.within))) in h),
+)
 
 pub bounds-counts-second : goal.bounds-counts-second
 bounds-counts-second c = (let h : c.right-second.result < max_objects = rw (let h : c.right-second.result ≡ right_at state_layout c.args.state.now c.loop-i.i = rw (← c.state_layout.ensures.value) c.right-second.ensures.value in h)
@@ -34,23 +37,32 @@ pub is_link-requires : goal.is_link-requires
 is_link-requires c = omega (arith, c.loop-i-test.true, c.first_of_kind-to.ensures.within, c.requires.few)
 
 pub overflow_add-counts : goal.overflow_add-counts
-overflow_add-counts c = omega (arith, tallied_few _ _ _ c.loop-i.invariant.2 (let h : c.right-second.result < max_objects = rw (let h : c.right-second.result ≡ right_at state_layout c.args.state.now c.loop-i.i = rw (← c.state_layout.ensures.value) c.right-second.ensures.value in h)
-    (c.requires.inside _ (omega (arith, c.loop-i-test.true, c.first_of_kind-to.ensures.within))) in h), c.loop-i.invariant.1, c.requires.few, byte_small c.is_link.result)
+overflow_add-counts c = omega (
+  arith,
+  tallied_few _ _ _ c.loop-i.invariant.2 (let h : c.right-second.result < max_objects = rw (let h : c.right-second.result ≡ right_at state_layout c.args.state.now c.loop-i.i = rw (← c.state_layout.ensures.value) c.right-second.ensures.value in h)
+      (c.requires.inside _ (omega (arith, c.loop-i-test.true, c.first_of_kind-to.ensures.within))) in h),
+  c.loop-i.invariant.1,
+  c.requires.few,
+  byte_small c.is_link.result,
+)
 
 pub offset_bounds-counts-second-in-loop-i : goal.offset_bounds-counts-second-in-loop-i
-offset_bounds-counts-second-in-loop-i c = omega (arith, (let h : c.right-second.result < max_objects = rw (let h : c.right-second.result ≡ right_at state_layout c.args.state.now c.loop-i.i = rw (← c.state_layout.ensures.value) c.right-second.ensures.value in h)
-    (c.requires.inside _ (omega (arith, c.loop-i-test.true, c.first_of_kind-to.ensures.within))) in h))
+offset_bounds-counts-second-in-loop-i c = omega (
+  arith,
+  (let h : c.right-second.result < max_objects = rw (let h : c.right-second.result ≡ right_at state_layout c.args.state.now c.loop-i.i = rw (← c.state_layout.ensures.value) c.right-second.ensures.value in h)
+      (c.requires.inside _ (omega (arith, c.loop-i-test.true, c.first_of_kind-to.ensures.within))) in h),
+)
 
 pub bounds-counts-second-in-loop-i : goal.bounds-counts-second-in-loop-i
 bounds-counts-second-in-loop-i c = (let h : c.right-second.result < max_objects = rw (let h : c.right-second.result ≡ right_at state_layout c.args.state.now c.loop-i.i = rw (← c.state_layout.ensures.value) c.right-second.ensures.value in h)
     (c.requires.inside _ (omega (arith, c.loop-i-test.true, c.first_of_kind-to.ensures.within))) in h)
 
 pub loop-i-preserved : goal.loop-i-preserved
-loop-i-preserved c =  (
+loop-i-preserved c = (
   omega arith,
   omega (arith, c.loop-i-test.true, c.first_of_kind-to.ensures.within),
   tallied_more _ _ _ c.loop-i.invariant.2 (let h : c.right-second.result ≡ right_at state_layout c.args.state.now c.loop-i.i = rw (← c.state_layout.ensures.value) c.right-second.ensures.value in h) (let h : c.right-second.result < max_objects = rw (let h : c.right-second.result ≡ right_at state_layout c.args.state.now c.loop-i.i = rw (← c.state_layout.ensures.value) c.right-second.ensures.value in h)
-    (c.requires.inside _ (omega (arith, c.loop-i-test.true, c.first_of_kind-to.ensures.within))) in h)
+      (c.requires.inside _ (omega (arith, c.loop-i-test.true, c.first_of_kind-to.ensures.within))) in h)
       (link_here _ _ _ c.first_of_kind-from.ensures c.first_of_kind-to.ensures c.loop-i.invariant.0 c.loop-i-test.true c.is_link.ensures),
 )
 

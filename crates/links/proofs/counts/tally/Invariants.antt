@@ -1,5 +1,5 @@
 -- The counts of the facts passed (Tallied); before the row of the kind and after it there are no links.
-use Prim.Native.Nat.{◌-◌, ◌≤◌}
+use Prim.Native.Nat.{◌≤◌}
 use Rattle.records.specs.Layout.{state_layout, entries}
 use Rattle.links.specs.Counts.{Tallied}
 use Rattle.links.proofs.counts.tally.Given as goal

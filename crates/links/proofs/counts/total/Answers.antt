@@ -1,5 +1,4 @@
 -- The counts before the present place are added up.
-use Prim.Native.Nat.{◌-◌}
 use mathlib.Core.Path.{◌≡◌, refl}
 use native.Mathlib.Omega.{arith}
 use native.Mathlib.Nat.{le_antisymm}
@@ -15,7 +14,7 @@ pub overflow_add-links : goal.overflow_add-links
 overflow_add-links c = omega (arith, c.loop-e.invariant.2, c.word-links.ensures.word, c.loop-e-test.true, c.requires)
 
 pub loop-e-preserved : goal.loop-e-preserved
-loop-e-preserved c =  (
+loop-e-preserved c = (
   omega (arith, c.loop-e-test.true),
   sum_turn _ _ c.loop-e.invariant.1 c.word-links.ensures.value,
   omega (arith, c.loop-e.invariant.2, c.word-links.ensures.word),

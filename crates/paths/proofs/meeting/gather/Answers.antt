@@ -1,7 +1,6 @@
 -- The words passed have what the rows share (Filled).
 use Rattle.paths.proofs.RelationLaws.{gathering_word, gathered_of}
 use Rattle.rows.proofs.RowLaws.{filled_none, filled_more, filled_all}
-use Prim.Native.Nat.{◌-◌}
 use Rattle.rows.proofs.BlockLaws.{row_end}
 use native.Mathlib.Omega.{arith}
 use Rattle.paths.proofs.meeting.gather.Goals as goal

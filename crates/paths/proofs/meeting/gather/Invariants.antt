@@ -1,7 +1,7 @@
 -- The words passed have what the rows share (Filled).
 use Rattle.paths.proofs.RelationLaws.{gathered_word}
 use Rattle.rows.specs.Rows.{Filled}
-use Prim.Native.Nat.{◌≤◌, ◌-◌}
+use Prim.Native.Nat.{◌≤◌}
 use Rattle.paths.proofs.meeting.gather.Given as goal
 
 abbrev pub invariant-loop-j : goal.invariant-loop-j

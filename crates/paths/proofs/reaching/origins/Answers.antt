@@ -2,7 +2,6 @@
 -- of the kind and after it there are none.
 use Rattle.paths.proofs.StepLaws.{origins_none, origins_more, origins_all, Facing, facing_few}
 use mathlib.Core.Path.{refl, ◌∙◌}
-use Prim.Native.Nat.{◌-◌}
 use native.Mathlib.Omega.{arith}
 use Rattle.paths.proofs.reaching.origins.Goals as goal
 
@@ -16,10 +15,10 @@ pub first_of_kind-to-requires : goal.first_of_kind-to-requires
 first_of_kind-to-requires c = c.requires.followable.rise
 
 pub shared_row-row-requires : goal.shared_row-row-requires
-shared_row-row-requires c = record { set_words_in_bounds = c.requires.set_words_in_bounds; set_words_in_bounds_2 = c.requires.set_words_in_bounds; }
+shared_row-row-requires c = record { set_words_in_bounds = c.requires.set_words_in_bounds; set_words_in_bounds_2 = c.requires.set_words_in_bounds }
 
 pub shared_row-both-requires : goal.shared_row-both-requires
-shared_row-both-requires c = record { set_words_in_bounds = omega (arith, c.shared_row-row.ensures.size); set_words_in_bounds_2 = omega (arith, c.requires.into_len); }
+shared_row-both-requires c = record { set_words_in_bounds = omega (arith, c.shared_row-row.ensures.size); set_words_in_bounds_2 = omega (arith, c.requires.into_len) }
 
 pub loop-i-init : goal.loop-i-init
 loop-i-init c = (omega arith, c.first_of_kind-from.ensures.within, refl, λ x f. origins_none f.first)
@@ -27,7 +26,7 @@ loop-i-init c = (omega arith, c.first_of_kind-from.ensures.within, refl, λ x f.
 pub lead-requires : goal.lead-requires
 lead-requires c = let f : Facing c.args.state.now c.first_of_kind-from.result c.first_of_kind-to.result c.ends_of-ends.result c.args.step = record { ok = c.requires.followable; first = c.first_of_kind-from.ensures; last = c.first_of_kind-to.ensures; ends = c.ends_of-ends.ensures } in
     let (origins, targets) = facing_few f c.loop-i-test.true in
-    record { i_bound = origins; i_bound_2 = targets; out_len = c.loop-i.invariant.2; }
+    record { i_bound = origins; i_bound_2 = targets; out_len = c.loop-i.invariant.2 }
 
 pub loop-i-preserved : goal.loop-i-preserved
 loop-i-preserved c =

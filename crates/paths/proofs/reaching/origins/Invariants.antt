@@ -7,7 +7,7 @@ use Rattle.paths.specs.Steps.{Origins}
 use Rattle.records.specs.Layout.{state_layout, entries}
 use mathlib.Core.Path.{◌≡◌}
 use lib.ListN.{length}
-use Prim.Native.Nat.{◌≤◌, ◌-◌}
+use Prim.Native.Nat.{◌≤◌}
 use Rattle.paths.proofs.reaching.origins.Given as goal
 
 abbrev pub invariant-loop-i : goal.invariant-loop-i

@@ -5,7 +5,6 @@ use mathlib.Core.Bool.{So}
 use Rattle.paths.proofs.WalkLaws.{walk_few, walk_landing, walk_room, walk_suc, walk_followable, walk_before, reach_starts, reach_on, reach_ends}
 use Rattle.records.proofs.ReadingLaws.{path_some}
 use Rattle.records.proofs.PileLaws.{start_le}
-use Prim.Native.Nat.{◌-◌}
 use native.Mathlib.Omega.{arith}
 use Rattle.paths.proofs.reaching.reaching.Goals as goal
 
@@ -25,7 +24,7 @@ pub step_at-requires : goal.step_at-requires
 step_at-requires c = omega (arith, walk_few c.loop-set.invariant.0)
 
 pub origins-before-requires : goal.origins-before-requires
-origins-before-requires c = record { followable = walk_followable c.loop-set.invariant.0 c.type_inv.words _ c.step_at.ensures; set_words_in_bounds = walk_landing c.loop-set.invariant.0; into_len = c.loop-set.invariant.1.size; }
+origins-before-requires c = record { followable = walk_followable c.loop-set.invariant.0 c.type_inv.words _ c.step_at.ensures; set_words_in_bounds = walk_landing c.loop-set.invariant.0; into_len = c.loop-set.invariant.1.size }
 
 pub start_of-at-requires : goal.start_of-at-requires
 start_of-at-requires c = omega (arith, walk_few c.loop-set.invariant.0)

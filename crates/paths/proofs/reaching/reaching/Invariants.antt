@@ -4,7 +4,7 @@ use Rattle.paths.proofs.ReachLaws.{Reaching}
 use Rattle.paths.specs.Landings.{Walk}
 use Rattle.records.specs.Helpers.Reading.{path_at}
 use Rattle.records.specs.StateRecord.{state_of}
-use Prim.Native.Nat.{suc, ◌-◌}
+use Prim.Native.Nat.{suc}
 use Rattle.paths.proofs.reaching.reaching.Given as goal
 
 abbrev pub invariant-loop-set : goal.invariant-loop-set

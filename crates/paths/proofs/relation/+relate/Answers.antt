@@ -29,7 +29,7 @@ pub step_at-requires : goal.step_at-requires
 step_at-requires t c = omega (arith, walk_few c.requires.walk)
 
 pub advance-requires : goal.advance-requires
-advance-requires t c = record { followable = walk_followable c.requires.walk c.type_inv.words _ c.step_at.ensures; set_words_in_bounds = walk_last c.requires.walk (path_some _ _ c.requires.walk.path); room = room_same c.requires.room c.relate.ensures.size; }
+advance-requires t c = record { followable = walk_followable c.requires.walk c.type_inv.words _ c.step_at.ensures; set_words_in_bounds = walk_last c.requires.walk (path_some _ _ c.requires.walk.path); room = room_same c.requires.room c.relate.ensures.size }
 
 pub identity-requires : goal.identity-requires
 identity-requires t c = rw c.objects.ensures.value c.requires.room

@@ -4,7 +4,6 @@ use Rattle.paths.proofs.RoomLaws.{room_same}
 use Rattle.paths.proofs.RelationLaws.{stepped_none, stepped_more, stepped_all}
 use Rattle.paths.proofs.StepLaws.{Facing, facing_few, facing_inside}
 use mathlib.Core.Path.{refl, ◌∙◌}
-use Prim.Native.Nat.{◌-◌}
 use native.Mathlib.Omega.{arith}
 use Rattle.paths.proofs.relation.advance.Goals as goal
 
@@ -21,7 +20,7 @@ pub first_of_kind-to-requires : goal.first_of_kind-to-requires
 first_of_kind-to-requires c = c.requires.followable.rise
 
 pub shared_row-set-requires : goal.shared_row-set-requires
-shared_row-set-requires c = record { set_words_in_bounds = c.requires.set_words_in_bounds; set_words_in_bounds_2 = c.requires.set_words_in_bounds; }
+shared_row-set-requires c = record { set_words_in_bounds = c.requires.set_words_in_bounds; set_words_in_bounds_2 = c.requires.set_words_in_bounds }
 
 pub loop-i-init : goal.loop-i-init
 loop-i-init c =
@@ -32,7 +31,7 @@ pub follow-requires : goal.follow-requires
 follow-requires c = let f : Facing c.args.state.now c.first_of_kind-from.result c.first_of_kind-to.result c.ends_of-ends.result c.args.step = record { ok = c.requires.followable; first = c.first_of_kind-from.ensures; last = c.first_of_kind-to.ensures; ends = c.ends_of-ends.ensures } in
     let (origins, targets) = facing_few f c.loop-i-test.true in
     let (target, origin) = facing_inside f c.loop-i-test.true in
-    record { i_bound = origins; i_bound_2 = targets; i_bound_3 = target; i_bound_4 = origin; room = room_same c.requires.room (c.loop-i.invariant.2 ∙ c.clear.ensures.size); }
+    record { i_bound = origins; i_bound_2 = targets; i_bound_3 = target; i_bound_4 = origin; room = room_same c.requires.room (c.loop-i.invariant.2 ∙ c.clear.ensures.size) }
 
 pub loop-i-preserved : goal.loop-i-preserved
 loop-i-preserved c =

@@ -6,7 +6,7 @@ use Rattle.paths.specs.Relation.{Stepped}
 use Rattle.records.specs.Layout.{state_layout, entries}
 use mathlib.Core.Path.{◌≡◌}
 use lib.ListN.{length}
-use Prim.Native.Nat.{◌≤◌, ◌-◌}
+use Prim.Native.Nat.{◌≤◌}
 use Rattle.paths.proofs.relation.advance.Given as goal
 
 abbrev pub invariant-loop-i : goal.invariant-loop-i

@@ -3,7 +3,6 @@ use Rattle.paths.proofs.RoomLaws.{room_words}
 use Rattle.paths.proofs.RelationLaws.{cleared_of}
 use Rattle.rows.proofs.RowLaws.{filled_none, filled_more, filled_all}
 use mathlib.Core.Path.{refl}
-use Prim.Native.Nat.{◌-◌}
 use native.Mathlib.Omega.{arith}
 use Rattle.paths.proofs.relation.clear.Goals as goal
 

@@ -12,7 +12,7 @@ pub overflow_add-bases-then-has : goal.overflow_add-bases-then-has
 overflow_add-bases-then-has c = omega (arith, (room_few c.args.bases c.requires.room c.requires.i_bound_4).1, c.object_in-origin.ensures)
 
 pub merge-requires : goal.merge-requires
-merge-requires c = record { block_words_in_bounds = rw c.object_in-target.ensures (room_row c.args.bases c.requires.room c.requires.i_bound_3).0; block_words_in_bounds_2 = rw c.object_in-origin.ensures (room_row c.args.bases c.requires.room c.requires.i_bound_4).1; rows_len_bound = c.requires.room.few; }
+merge-requires c = record { block_words_in_bounds = rw c.object_in-target.ensures (room_row c.args.bases c.requires.room c.requires.i_bound_3).0; block_words_in_bounds_2 = rw c.object_in-origin.ensures (room_row c.args.bases c.requires.room c.requires.i_bound_4).1; rows_len_bound = c.requires.room.few }
 
 pub returns-then-has : goal.returns-then-has
 returns-then-has c = followed_more c.object_in-target.ensures c.object_in-origin.ensures (sym c.has.ensures ∙ c.if-has.true) c.merge.ensures

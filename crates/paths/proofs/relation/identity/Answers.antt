@@ -2,7 +2,7 @@
 use Rattle.paths.proofs.RoomLaws.{room_row, room_few}
 use Rattle.paths.proofs.RelationLaws.{marking_none, marking_more, marking_all}
 use Rattle.rows.proofs.BlockLaws.{row_end}
-use Prim.Native.Nat.{◌+◌, ◌-◌}
+use Prim.Native.Nat.{◌+◌}
 use native.Mathlib.Omega.{arith}
 use Rattle.paths.proofs.relation.identity.Goals as goal
 

@@ -14,4 +14,4 @@ pub shape_of-sets : goal.shape_of-sets
 shape_of-sets c = ap length c.clear.ensures ∙ length-replicate _ _
 
 pub returns : goal.returns
-returns c = record { reps_after = c.number.ensures; sets_after = c.clear.ensures; }
+returns c = record { reps_after = c.number.ensures; sets_after = c.clear.ensures }

@@ -1,5 +1,5 @@
 -- The sets passed are empty.
-use Prim.Native.Nat.{◌-◌, ◌≤◌}
+use Prim.Native.Nat.{◌≤◌}
 use mathlib.Core.Path.{◌≡◌}
 use lib.ListN.{length, take}
 use Rattle.records.proofs.General.Filling.{listed}

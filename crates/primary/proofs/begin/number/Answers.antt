@@ -1,9 +1,8 @@
 -- The nodes passed represent themselves.
-use Prim.Native.Nat.{◌-◌}
 use native.Mathlib.Omega.{arith}
 use mathlib.Core.Path.{refl, ap, ◌∙◌}
 use native.Mathlib.Nat.{le_antisymm}
-use lib.ListN.{length, length-set}
+use lib.ListN.{length-set}
 use Rattle.records.proofs.General.Filling.{listed_more, listed_all}
 use Rattle.primary.proofs.BeginLaws.{listed_numbers}
 use Rattle.chase.specs.Primary.{numbers_from}
@@ -13,7 +12,7 @@ pub loop-i-init : goal.loop-i-init
 loop-i-init c = (omega arith, refl, refl)
 
 pub loop-i-preserved : goal.loop-i-preserved
-loop-i-preserved c =  (
+loop-i-preserved c = (
   omega arith,
   listed_more (λ j. j) c.loop-i.reps c.loop-i.i _ (omega arith) c.loop-i.invariant.1 c.narrow.ensures,
   simp length-set c.loop-i.invariant.2,

@@ -1,5 +1,5 @@
 -- The nodes passed represent themselves.
-use Prim.Native.Nat.{◌-◌, ◌≤◌}
+use Prim.Native.Nat.{◌≤◌}
 use mathlib.Core.Path.{◌≡◌}
 use lib.ListN.{length, take}
 use Rattle.records.proofs.General.Filling.{listed}

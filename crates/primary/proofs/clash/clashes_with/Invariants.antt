@@ -1,5 +1,5 @@
 -- Whether a constant passed clashes with this.
-use Prim.Native.Nat.{◌-◌, ◌≤◌}
+use Prim.Native.Nat.{◌≤◌}
 use mathlib.Core.Path.{◌≡◌}
 use Rattle.records.specs.Finite.{any}
 use Rattle.records.specs.State.{clashing}

@@ -22,21 +22,19 @@ pub lift_all-requires : goal.lift_all-requires
 lift_all-requires c = (c.requires.0, c.requires.1, c.assert_all.ensures.formed)
 
 pub type_all-requires : goal.type_all-requires
-type_all-requires c =
-    (
-      c.requires.0,
-      c.requires.1,
-      c.lift_all.ensures.formed,
-      edges_sized _ _ c.args.edges.now c.equate_all.ensures.size c.requires.3.edges,
-    )
+type_all-requires c = (
+  c.requires.0,
+  c.requires.1,
+  c.lift_all.ensures.formed,
+  edges_sized _ _ c.args.edges.now c.equate_all.ensures.size c.requires.3.edges,
+)
 
 pub unify_all-requires : goal.unify_all-requires
-unify_all-requires c =
-    (
-      c.requires.0,
-      c.type_all.ensures.formed,
-      edges_sized _ _ c.args.edges.now c.equate_all.ensures.size c.requires.3.edges,
-    )
+unify_all-requires c = (
+  c.requires.0,
+  c.type_all.ensures.formed,
+  edges_sized _ _ c.args.edges.now c.equate_all.ensures.size c.requires.3.edges,
+)
 
 pub shape_of-reps : goal.shape_of-reps
 shape_of-reps c = c.unify_all.ensures.size ∙ c.equate_all.ensures.size

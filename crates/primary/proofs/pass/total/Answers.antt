@@ -1,7 +1,5 @@
 -- The entries passed have been summed.
-use Prim.Native.Nat.{◌-◌}
 use native.Mathlib.Omega.{arith}
-use lib.ListN.{take}
 use lib.Seq.{length-take-le}
 use Rattle.primary.proofs.SumLaws.{sum_none, sum_more, sum_all}
 use Rattle.primary.proofs.pass.total.Goals as goal
@@ -20,7 +18,7 @@ overflow_add-sum c =
     )
 
 pub loop-i-preserved : goal.loop-i-preserved
-loop-i-preserved c =  (
+loop-i-preserved c = (
   omega arith,
   sum_more _ _ _ _ c.loop-i-test.true c.loop-i.invariant.1 c.wide-sum.ensures
       (omega (arith, c.type_inv.l c.loop-i.i, c.wide-sum.ensures)),

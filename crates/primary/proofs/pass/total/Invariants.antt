@@ -1,5 +1,5 @@
 -- The entries passed have been summed.
-use Prim.Native.Nat.{◌-◌, ◌≤◌}
+use Prim.Native.Nat.{◌≤◌}
 use lib.ListN.{take}
 use Rattle.primary.specs.Pass.{Sum}
 use Rattle.primary.proofs.pass.total.Given as goal

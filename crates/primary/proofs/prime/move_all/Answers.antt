@@ -1,9 +1,7 @@
 -- The entries passed have been changed.
-use Prim.Native.Nat.{◌-◌}
 use native.Mathlib.Omega.{arith}
 use mathlib.Core.Path.{refl, ◌∙◌}
-use lib.ListN.{length, length-set}
-use Rattle.primary.specs.Formed.{moved}
+use lib.ListN.{length-set}
 use Rattle.records.proofs.General.Filling.{changed_more, changed_all}
 use Rattle.primary.proofs.prime.move_all.Goals as goal
 
@@ -11,7 +9,7 @@ pub loop-i-init : goal.loop-i-init
 loop-i-init c = (omega arith, refl, refl)
 
 pub loop-i-preserved : goal.loop-i-preserved
-loop-i-preserved c =  (
+loop-i-preserved c = (
   omega arith,
   rw c.moved.ensures (changed_more _ _ _ _ (omega arith) c.loop-i.invariant.1),
   simp length-set c.loop-i.invariant.2,

@@ -1,5 +1,5 @@
 -- The entries passed have been changed.
-use Prim.Native.Nat.{◌-◌, ◌≤◌}
+use Prim.Native.Nat.{◌≤◌}
 use mathlib.Core.Path.{◌≡◌}
 use lib.ListN.{length}
 use Rattle.primary.specs.Formed.{moved}

@@ -1,5 +1,4 @@
 -- The memberships passed have been added.
-use Prim.Native.Nat.{◌-◌}
 use native.Mathlib.Omega.{arith}
 use mathlib.Core.Path.{sym, ◌∙◌}
 use Rattle.primary.proofs.FormedLaws.{words_none, words_more, words_all}
@@ -17,7 +16,7 @@ pub add-requires : goal.add-requires
 add-requires c = (c.loop-i.invariant.1.formed, rw c.wide-w.ensures (c.requires.1 _ c.loop-i-test.true).1)
 
 pub loop-i-preserved : goal.loop-i-preserved
-loop-i-preserved c =  (
+loop-i-preserved c = (
   omega arith,
   words_more assert member_of c.args.members.now _ _ _ _ _ _ _ c.loop-i-test.true c.loop-i.invariant.1
       (rw (c.place.ensures, c.wide-w.ensures) at c.add.ensures),

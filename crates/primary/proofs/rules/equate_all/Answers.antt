@@ -1,5 +1,4 @@
 -- The ties passed have been merged.
-use Prim.Native.Nat.{◌-◌}
 use native.Mathlib.Omega.{arith}
 use mathlib.Core.Path.{sym, ◌∙◌}
 use Rattle.primary.proofs.FormedLaws.{words_none, words_more, words_all}
@@ -11,14 +10,14 @@ pub loop-i-init : goal.loop-i-init
 loop-i-init c = (omega arith, words_none equate tie_of c.args.ties.now _ _ c.requires.0)
 
 pub merge-requires : goal.merge-requires
-merge-requires c =  (
+merge-requires c = (
   c.loop-i.invariant.1.formed,
   rw (c.wide-w.ensures, c.loop-i.invariant.1.size) (c.requires.1 _ c.loop-i-test.true).0,
   rw (c.wide-w.ensures, c.loop-i.invariant.1.size) (c.requires.1 _ c.loop-i-test.true).1,
 )
 
 pub loop-i-preserved : goal.loop-i-preserved
-loop-i-preserved c =  (
+loop-i-preserved c = (
   omega arith,
   words_more equate tie_of c.args.ties.now _ _ _ _ _ _ _ c.loop-i-test.true c.loop-i.invariant.1
       (rw c.wide-w.ensures at c.merge.ensures),

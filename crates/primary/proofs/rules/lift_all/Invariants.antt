@@ -1,5 +1,5 @@
 -- The nodes passed have been lifted.
-use Prim.Native.Nat.{◌-◌, ◌≤◌}
+use Prim.Native.Nat.{◌≤◌}
 use lib.ListN.{length}
 use Rattle.records.specs.SchemaRecord.{schema_of}
 use Rattle.records.specs.Helpers.Loops.{upto}

@@ -1,5 +1,4 @@
 -- The tests of the definition, the dear one last.
-use borrow.Author.Tests.{not-true, not-false}
 use Rattle.chase.specs.Axioms.{is_single}
 use Rattle.chase.specs.Primary.{rep_of}
 use Rattle.records.specs.SchemaRecord.{schema_of}

@@ -1,5 +1,4 @@
 -- The edges passed have been typed.
-use Prim.Native.Nat.{◌-◌}
 use native.Mathlib.Omega.{arith}
 use mathlib.Core.Path.{sym, ◌∙◌}
 use Rattle.primary.proofs.FormedLaws.{words_none, words_more, words_all}
@@ -13,13 +12,12 @@ loop-i-init c =
     (omega arith, words_none (type_edge (schema_of a.schema.now)) edge_of a.edges.now _ _ c.requires.2)
 
 pub type_edge-requires : goal.type_edge-requires
-type_edge-requires c =
-    (
-      c.requires.0,
-      c.requires.1,
-      c.loop-i.invariant.1.formed,
-      rw c.wide.ensures (c.requires.3 _ c.loop-i-test.true),
-    )
+type_edge-requires c = (
+  c.requires.0,
+  c.requires.1,
+  c.loop-i.invariant.1.formed,
+  rw c.wide.ensures (c.requires.3 _ c.loop-i-test.true),
+)
 
 pub loop-i-preserved : goal.loop-i-preserved
 loop-i-preserved c =

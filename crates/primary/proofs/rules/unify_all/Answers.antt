@@ -1,5 +1,4 @@
 -- Each edge passed has been unified with all.
-use Prim.Native.Nat.{◌-◌}
 use native.Mathlib.Omega.{arith}
 use mathlib.Core.Path.{sym, ◌∙◌}
 use Rattle.primary.proofs.FormedLaws.{words_none, words_more, words_all, edge_sized, edges_sized}
@@ -12,7 +11,7 @@ pub loop-i-init : goal.loop-i-init
 loop-i-init c = (omega arith, words_none (unify_row (schema_of c.args.schema.now) (map edge_of c.args.edges.now)) edge_of c.args.edges.now _ _ c.requires.1)
 
 pub unify_row-requires : goal.unify_row-requires
-unify_row-requires c =  (
+unify_row-requires c = (
   c.requires.0,
   c.loop-i.invariant.1.formed,
   rw c.wide.ensures (edge_sized c.loop-i.invariant.1.size (c.requires.2 _ c.loop-i-test.true)),
@@ -20,7 +19,7 @@ unify_row-requires c =  (
 )
 
 pub loop-i-preserved : goal.loop-i-preserved
-loop-i-preserved c =  (
+loop-i-preserved c = (
   omega arith,
   words_more (unify_row (schema_of c.args.schema.now) (map edge_of c.args.edges.now)) edge_of c.args.edges.now _ _ _ _ _ _ _ c.loop-i-test.true c.loop-i.invariant.1
       (rw c.wide.ensures at c.unify_row.ensures),

@@ -1,5 +1,5 @@
 -- Each edge passed has been unified with all.
-use Prim.Native.Nat.{◌-◌, ◌≤◌}
+use Prim.Native.Nat.{◌≤◌}
 use lib.ListN.{length}
 use Rattle.primary.specs.Formed.{prime, Becomes}
 use Rattle.records.proofs.General.TurnLaws.{passed}

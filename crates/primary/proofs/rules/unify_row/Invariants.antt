@@ -1,5 +1,5 @@
 -- The edge has been unified with those passed.
-use Prim.Native.Nat.{◌-◌, ◌≤◌}
+use Prim.Native.Nat.{◌≤◌}
 use lib.ListN.{length}
 use Rattle.primary.specs.Formed.{prime, Becomes}
 use Rattle.records.proofs.General.TurnLaws.{passed}

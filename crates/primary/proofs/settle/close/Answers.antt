@@ -11,7 +11,7 @@ pub begin-requires : goal.begin-requires
 begin-requires c = omega (arith, nodes_few _ _ c.requires.0.legal c.requires.0.sound, c.requires.1)
 
 pub settle-requires : goal.settle-requires
-settle-requires c =  (
+settle-requires c = (
   c.requires.0,
   begin_is _ _ _ _ c.requires.1 c.begin.ensures.reps_after
       (c.begin.ensures.sets_after ∙ ap (λ (k : ℕ). replicate k 0) (c.requires.2 ∙ sym c.requires.1)),

@@ -1,5 +1,4 @@
 -- Each turn is a round (Round of SettleLaws).
-use Prim.Native.Nat.{◌-◌}
 use mathlib.Core.Path.{ap, sym, ◌∙◌}
 use Rattle.chase.specs.Primary.{pass, weight}
 use Rattle.primary.specs.Asked.{query_task}

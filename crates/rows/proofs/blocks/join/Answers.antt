@@ -2,7 +2,6 @@
 use Rattle.rows.proofs.BlockLaws.{joining_word, joined_of}
 use Rattle.rows.proofs.RowLaws.{filled_none, filled_more, filled_all}
 use mathlib.Core.Path.{refl}
-use Prim.Native.Nat.{◌-◌}
 use native.Mathlib.Omega.{arith}
 use Rattle.rows.proofs.blocks.join.Goals as goal
 

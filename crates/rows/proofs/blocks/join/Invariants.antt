@@ -2,7 +2,7 @@
 use Rattle.rows.proofs.BlockLaws.{joined_word}
 use Rattle.rows.specs.Rows.{Filled}
 use Rattle.rows.specs.Selection.{set_words}
-use Prim.Native.Nat.{◌≤◌, ◌-◌, ◌*◌}
+use Prim.Native.Nat.{◌≤◌, ◌*◌}
 use Rattle.rows.proofs.blocks.join.Given as goal
 
 abbrev pub invariant-loop-j : goal.invariant-loop-j

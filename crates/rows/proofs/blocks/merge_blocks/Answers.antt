@@ -1,6 +1,5 @@
 -- The blocks passed are put in (Merging).
 use Rattle.rows.proofs.BlockLaws.{row_end, merging_none, merging_more, merging_all}
-use Prim.Native.Nat.{◌-◌}
 use native.Mathlib.Omega.{arith}
 use Rattle.rows.proofs.blocks.merge_blocks.Goals as goal
 
@@ -20,7 +19,7 @@ pub overflow_add-from : goal.overflow_add-from
 overflow_add-from c = omega (arith, c.loop-c-test.true, row_end c.args.s c.args.blocks _ c.requires.block_words_in_bounds_2, c.requires.rows_len_bound)
 
 pub merge_block-requires : goal.merge_block-requires
-merge_block-requires c = record { block_words_in_bounds = omega (arith, c.loop-c-test.true, c.loop-c.invariant.1.size, row_end c.args.r c.args.blocks _ c.requires.block_words_in_bounds); block_words_in_bounds_2 = omega (arith, c.loop-c-test.true, c.loop-c.invariant.1.size, row_end c.args.s c.args.blocks _ c.requires.block_words_in_bounds_2); }
+merge_block-requires c = record { block_words_in_bounds = omega (arith, c.loop-c-test.true, c.loop-c.invariant.1.size, row_end c.args.r c.args.blocks _ c.requires.block_words_in_bounds); block_words_in_bounds_2 = omega (arith, c.loop-c-test.true, c.loop-c.invariant.1.size, row_end c.args.s c.args.blocks _ c.requires.block_words_in_bounds_2) }
 
 pub loop-c-preserved : goal.loop-c-preserved
 loop-c-preserved c = (omega arith, merging_more c.loop-c.invariant.1 c.loop-c-test.true c.merge_block.ensures)

@@ -1,6 +1,6 @@
 -- The blocks passed are put in (Merging).
 use Rattle.rows.proofs.BlockLaws.{Merging}
-use Prim.Native.Nat.{◌-◌, ◌≤◌}
+use Prim.Native.Nat.{◌≤◌}
 use Rattle.rows.proofs.blocks.merge_blocks.Given as goal
 
 abbrev pub invariant-loop-c : goal.invariant-loop-c

@@ -1,7 +1,6 @@
 -- The objects passed are put in (Below).
 use Rattle.rows.proofs.RowLaws.{below_none, below_more}
 use native.Mathlib.Nat.{le_antisymm}
-use Prim.Native.Nat.{◌-◌}
 use native.Mathlib.Omega.{arith}
 use Rattle.rows.proofs.sets.everything.Goals as goal
 

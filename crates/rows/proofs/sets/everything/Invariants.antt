@@ -1,6 +1,6 @@
 -- The objects passed are put in (Below).
 use Rattle.rows.specs.Rows.{Below}
-use Prim.Native.Nat.{◌≤◌, ◌-◌}
+use Prim.Native.Nat.{◌≤◌}
 use Rattle.rows.proofs.sets.everything.Given as goal
 
 abbrev pub invariant-loop-d : goal.invariant-loop-d

@@ -1,6 +1,5 @@
 -- The set holds the objects of the facts passed (Naming); before the row of the kind and after it there are none.
 use Rattle.rows.proofs.KindSetLaws.{naming_none, naming_more, naming_all, object_few}
-use Prim.Native.Nat.{◌-◌}
 use native.Mathlib.Omega.{arith}
 use Rattle.rows.proofs.sets.kind_set.Goals as goal
 

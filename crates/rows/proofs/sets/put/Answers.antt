@@ -1,7 +1,6 @@
 -- The words passed are those of the set (Filled).
 use Rattle.rows.proofs.RowLaws.{filled_none, filled_more, filled_all, put_of}
 use mathlib.Core.Path.{refl}
-use Prim.Native.Nat.{◌-◌}
 use native.Mathlib.Omega.{arith}
 use Rattle.rows.proofs.sets.put.Goals as goal
 

@@ -2,7 +2,7 @@
 use Rattle.rows.proofs.RowLaws.{word_of}
 use Rattle.rows.specs.Rows.{Filled}
 use Rattle.rows.specs.Selection.{set_words}
-use Prim.Native.Nat.{◌≤◌, ◌-◌, ◌*◌}
+use Prim.Native.Nat.{◌≤◌, ◌*◌}
 use Rattle.rows.proofs.sets.put.Given as goal
 
 abbrev pub invariant-loop-j : goal.invariant-loop-j

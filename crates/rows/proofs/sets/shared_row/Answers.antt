@@ -1,7 +1,6 @@
 -- The words passed are those that the rows share (Filled).
 use Rattle.rows.proofs.RowLaws.{filled_none, filled_more, filled_all, shared_row_of}
 use mathlib.Core.Path.{refl}
-use Prim.Native.Nat.{◌-◌}
 use native.Mathlib.Omega.{arith}
 use Rattle.rows.proofs.sets.shared_row.Goals as goal
 

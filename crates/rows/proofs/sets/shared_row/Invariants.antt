@@ -3,7 +3,7 @@ use lib.ListN.{replicate}
 use Rattle.rows.proofs.RowLaws.{shared_word}
 use Rattle.rows.specs.Rows.{Filled}
 use Rattle.rows.specs.Selection.{set_words}
-use Prim.Native.Nat.{◌≤◌, ◌-◌}
+use Prim.Native.Nat.{◌≤◌}
 use Rattle.rows.proofs.sets.shared_row.Given as goal
 
 abbrev pub invariant-loop-j : goal.invariant-loop-j
