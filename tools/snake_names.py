@@ -39,7 +39,7 @@ def spelled(name):
 
 
 def lemma_file(path):
-    return os.path.basename(path) not in ("Proof.antt", "Invariants.antt", "Answers.antt")
+    return "/specs/" in path or os.path.basename(path) not in ("Proof.antt", "Invariants.antt", "Answers.antt")
 
 
 texts = {p: open(p, encoding="utf-8").read() for p in files(".rt", ".antt", ".edit")}

@@ -16,7 +16,7 @@ use Rattle.records.specs.Outcome.{first_refusal, lent_refusal}
 use Rattle.records.proofs.General.BoolLaws.{or_true_cases, or_false}
 use Rattle.records.proofs.OutcomeLaws.{first_at, first_stays, first_among, first_none, first_passed, lent_turned, lent_passed}
 use Rattle.catalogue.specs.declared.arrange.Order.{Order}
-use Rattle.catalogue.specs.Answers.{refusalOf, Words, Arranged}
+use Rattle.catalogue.specs.Answers.{refusal_of, Words, Arranged}
 use Rattle.catalogue.specs.Helpers.{in_row, HeldRows}
 use Rattle.catalogue.proofs.AnswerLaws.{rows_words}
 use Rattle.bikuvoa_c.specs.Catalogued.{catalogued_refusals, Written, CataloguedTo}
@@ -31,7 +31,7 @@ module _ (schema w rows order : List ℕ) (groups : ℕ) where
   abbrev short : Bool
   short = ltb (length rows) max_views || ltb (length order) max_views
 
-  pub by_records : {n : ℕ} → n ≡ refusalOf schema w → (n ≡ 0 → ⊥) → CataloguedTo schema w rows order groups n rows order groups
+  pub by_records : {n : ℕ} → n ≡ refusal_of schema w → (n ≡ 0 → ⊥) → CataloguedTo schema w rows order groups n rows order groups
   by_records e m =
       record {
         returns = e ∙ sym (first_stays (catalogue_refusals schema w) _ (λ z. m (e ∙ z)));
@@ -39,7 +39,7 @@ module _ (schema w rows order : List ℕ) (groups : ℕ) where
         answered = λ z. absurd (m z);
       }
 
-  module _ (passed : refusalOf schema w ≡ 0) where
+  module _ (passed : refusal_of schema w ≡ 0) where
     -- only the arrays are left to be looked at
     left : first_refusal (catalogued_refusals schema w rows order) ≡ first_refusal (lent_refusal max_views rows ∷ lent_refusal max_views order ∷ [])
     left = first_among (catalogue_refusals schema w) _ (first_passed (catalogue_refusals schema w) passed)

@@ -15,7 +15,7 @@ use Rattle.records.proofs.SubsumptionLaws.{held_self}
 use Rattle.catalogue.specs.declared.arrange.Order.{Order}
 use Rattle.catalogue.specs.declared.order.OrderAnswer.{OrderAnswer}
 use Rattle.catalogue.specs.Order.{groups, lowest, in_group}
-use Rattle.catalogue.specs.Answers.{refusalOf, TellsEach, Arranged, Ordering}
+use Rattle.catalogue.specs.Answers.{refusal_of, TellsEach, Arranged, Ordering}
 use Rattle.catalogue.specs.Exact.{InOrder}
 use Rattle.catalogue.proofs.SetLaws.{row_inside}
 use Rattle.catalogue.proofs.OrderLaws.{group_inside, group_some, group_of, group_one, group_class, narrow_first}
@@ -79,7 +79,7 @@ module _ (schema w : List ℕ) where
         }
 
   -- for any words that are not refused
-  pub order_exact : (answer : OrderAnswer) → Ordering schema w answer → refusalOf schema w ≡ 0
+  pub order_exact : (answer : OrderAnswer) → Ordering schema w answer → refusal_of schema w ≡ 0
       → InOrder n (HeldBy schema w) answer.order.count (λ k i. So (bit (get_or answer.order.groups k 0) i))
   order_exact answer o z =
       let (held, tells, arranged) = o.decided z in

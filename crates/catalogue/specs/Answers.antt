@@ -13,8 +13,8 @@ use Rattle.catalogue.specs.declared.order.OrderAnswer.{OrderAnswer}
 use Rattle.catalogue.specs.Order.{groups, held_at, in_group}
 
 -- the first refusal that applies, the same for each entry
-abbrev pub refusalOf : List ℕ → List ℕ → ℕ
-refusalOf schema w = first_refusal (catalogue_refusals schema w)
+abbrev pub refusal_of : List ℕ → List ℕ → ℕ
+refusal_of schema w = first_refusal (catalogue_refusals schema w)
 
 -- held tells of each ordered pair of views whether the first is held by the second
 abbrev pub TellsEach : List ℕ → List ℕ → (ℕ → ℕ → Bool) → Type 0
@@ -29,8 +29,8 @@ pub record Table (verdict : ℕ → ℕ → HoldsAnswer) (t : List (List HoldsAn
 -- The verdict of view i and view j stands at row i and column j; "open" stands at or above the count. In a refused call the
 -- refusal stands everywhere.
 pub record Verdicts (schema w : List ℕ) (t : List (List HoldsAnswer)) : Type 0 where
-  pub refused : (refusalOf schema w ≡ 0 → ⊥) → Table (λ i j. Refused (refusalOf schema w)) t
-  pub decided : refusalOf schema w ≡ 0 → (held : ℕ → ℕ → Bool) × TellsEach schema w held × Table (λ i j. cond (held_at (views w) held i j) Held Open) t
+  pub refused : (refusal_of schema w ≡ 0 → ⊥) → Table (λ i j. Refused (refusal_of schema w)) t
+  pub decided : refusal_of schema w ≡ 0 → (held : ℕ → ℕ → Bool) × TellsEach schema w held × Table (λ i j. cond (held_at (views w) held i j) Held Open) t
 
 -- 16 words: digit j of word i is 1 if the test says so
 pub record Words (test : ℕ → ℕ → Bool) (l : List ℕ) : Type 0 where
@@ -44,6 +44,6 @@ pub record Arranged (n : ℕ) (held : ℕ → ℕ → Bool) (o : Order) : Type 0
 
 -- The order by the verdicts. In a refused call it has no group, and the refusal's number stands beside it (0 otherwise).
 pub record Ordering (schema w : List ℕ) (answer : OrderAnswer) : Type 0 where
-  pub refusal : answer.refusal ≡ refusalOf schema w
-  pub refused : (refusalOf schema w ≡ 0 → ⊥) → Arranged 0 (λ i j. false) answer.order
-  pub decided : refusalOf schema w ≡ 0 → (held : ℕ → ℕ → Bool) × TellsEach schema w held × Arranged (views w) held answer.order
+  pub refusal : answer.refusal ≡ refusal_of schema w
+  pub refused : (refusal_of schema w ≡ 0 → ⊥) → Arranged 0 (λ i j. false) answer.order
+  pub decided : refusal_of schema w ≡ 0 → (held : ℕ → ℕ → Bool) × TellsEach schema w held × Arranged (views w) held answer.order

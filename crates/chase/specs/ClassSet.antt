@@ -1,4 +1,4 @@
--- A class set is a number: class A is in it if the digit of its place is 1. Union is bitOr.
+-- A class set is a number: class A is in it if the digit of its place is 1. Union is bit_or.
 use Rattle.std.specs.Prelude.{ℕ, ◌-◌, ◌^◌, Bool, not, eqb}
 use Rattle.std.specs.Int.Bits.{bit_and}
 
