@@ -39,7 +39,8 @@ def spelled(name):
 
 
 def lemma_file(path):
-    return "/specs/" in path or os.path.basename(path) not in ("Proof.antt", "Invariants.antt", "Answers.antt")
+    """Not a function's proof file, which stands in a folder of proofs/."""
+    return os.path.basename(os.path.dirname(path)) in ("specs", "proofs") or os.path.basename(path) not in ("Proof.antt", "Invariants.antt", "Answers.antt")
 
 
 texts = {p: open(p, encoding="utf-8").read() for p in files(".rt", ".antt", ".edit")}

@@ -20,7 +20,7 @@ use Rattle.chase.specs.Task.{Task, WellFormed}
 use Rattle.chase.specs.Forest.{Forest}
 use Rattle.chase.specs.Candidate.{objects, forest}
 use Rattle.chase.specs.Written.{gather, class_facts, pair_facts, object_facts, name_facts as named, mark_facts as marked, declared_facts}
-use Rattle.chase.proofs.Answers.{is-small}
+use Rattle.chase.proofs.Answers.{is_small}
 use Rattle.chase.proofs.GatherLaws.{gather_each, gather_below}
 use Rattle.primary.specs.Formed.{prime}
 use Rattle.primary.specs.Words.{node_in}
@@ -84,7 +84,7 @@ module _ (t : Task) (schema edges words : List ℕ) (g n : ℕ) (is : schema_of 
   pub objects_few : WellFormed t → concept_steps t.query ≤ query_steps → concept_steps t.view ≤ view_steps
       → t.schema.signature.constants ≤ max_constants
       → objects (schema_of schema) (ground_in g words edges) (forest_in g n words) ≤ max_objects
-  objects_few formed q v c = omega (arith, objects_are, is-small t formed q v c)
+  objects_few formed q v c = omega (arith, objects_are, is_small t formed q v c)
 
   pub facts_are : (reps sets : List ℕ) → prime reps sets ≡ primary t
       → facts_in schema reps (suc (concept_steps t.query)) edges g n words ≡ declared_facts t.schema (ground t) (forest t)

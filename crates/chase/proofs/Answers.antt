@@ -1,5 +1,5 @@
 -- What the model answers. The candidate is a finished chase (finished), so its start decides: a clash means held, and so does
--- a start in the view, which has no marks; otherwise the candidate is a counterexample. The candidate is small (is-small).
+-- a start in the view, which has no marks; otherwise the candidate is a counterexample. The candidate is small (is_small).
 use Prim.Native.Nat.{ℕ, zero, suc, ◌≤◌, ◌<◌}
 use native.Mathlib.Omega.{arith}
 use native.Mathlib.Decide.{dec_lt}
@@ -55,8 +55,8 @@ module _ (t : Task) (formed : WellFormed t) (G : Ground) (node : ℕ → ℕ) (T
   F = chased t.schema G T
 
   -- an object below the closing one is named by declared constants alone
-  names-is : (a d : ℕ) → d < size G T → d ≡ F.names a → (a < S.signature.constants) × (d ≡ G.constants a)
-  names-is a d h =
+  names_is : (a d : ℕ) → d < size G T → d ≡ F.names a → (a < S.signature.constants) × (d ≡ G.constants a)
+  names_is a d h =
       cond_elim (λ v. d ≡ v → (a < S.signature.constants) × (d ≡ G.constants a)) (ltb a S.signature.constants)
       (λ b q. (ltb-true a S.signature.constants b, q)) (λ _ q. absurd (omega (arith, room S G T)))
 
@@ -64,8 +64,8 @@ module _ (t : Task) (formed : WellFormed t) (G : Ground) (node : ℕ → ℕ) (T
   names_of a h = ap (λ (b : Bool). cond b (G.constants a) (objects S G T)) (lt-ltb a S.signature.constants h)
 
   -- a made object, as the extension asks for it
-  made-is : (k : ℕ) → G.objects ≤ k → k < size G T → Made S F k
-  made-is k h l =
+  made_is : (k : ℕ) → G.objects ≤ k → k < size G T → Made S F k
+  made_is k h l =
       let c = child S G valid k h l in
       record {
         maker = c.maker;
@@ -79,7 +79,7 @@ module _ (t : Task) (formed : WellFormed t) (G : Ground) (node : ℕ → ℕ) (T
         leaf = λ P d le r.
             ⊎_elim (λ q. absurd (omega (arith, (link_inside t G node ok P k d q).0)))
             (λ q. absurd (omega (arith, kid_before S G valid P k d q))) (pair_is S G T P k d r);
-        unnamed = λ a q. let n = names-is a k l q in omega (arith, n.1, ok.constants a n.0);
+        unnamed = λ a q. let n = names_is a k l q in omega (arith, n.1, ok.constants a n.0);
       }
 
   module _ (apart : (a : ℕ) → a < S.signature.constants → repeats S.signature G.constants a ≡ false)
@@ -105,9 +105,9 @@ module _ (t : Task) (formed : WellFormed t) (G : Ground) (node : ℕ → ℕ) (T
               ⊎_elim (link_elim G (λ P d e. Follows t λ I g. Related I P (g (node d)) (g (node e))) ok.pairs P d e)
               (λ q. absurd (omega (arith, (kid_inside S G valid P d e q).0))) (pair_is S G T P d e r);
           names = λ a d h q.
-              let n = names-is a d (omega (arith, ground_size G T)) q in
+              let n = names_is a d (omega (arith, ground_size G T)) q in
               subst (λ (i : ℕ). Follows t λ I g. g (node i) ≡ I.names a) (sym n.1) (ok.names a n.0);
-          made = made-is;
+          made = made_is;
           covers = covered t G node T ok valid t.view cov G.start ok.start;
         }
 
@@ -120,12 +120,12 @@ module _ (t : Task) (formed : WellFormed t) (x : Prime) (ok : Ok t x) (closed : 
   abbrev part : Grounded t (ground_of t x) (node_of t x)
   part = grounded t formed x ok closed
 
-  object-room : (d : ℕ) → d < (ground_of t x).objects → d < K.size
-  object-room d h = omega (arith, ground_size (ground_of t x) T, room t.schema (ground_of t x) T)
+  object_room : (d : ℕ) → d < (ground_of t x).objects → d < K.size
+  object_room d h = omega (arith, ground_size (ground_of t x) T, room t.schema (ground_of t x) T)
 
-  object-beyond : (n : ℕ) → nodes t ≤ n → object_of x n ≡ zero
+  object_beyond : (n : ℕ) → nodes t ≤ n → object_of x n ≡ zero
   unfolding object_of rep_of count
-  object-beyond n h = ap (λ (r : ℕ). count r (live x)) (get_or-eq_default x.reps 0 (omega (arith, ok.reps)))
+  object_beyond n h = ap (λ (r : ℕ). count r (live x)) (get_or-eq_default x.reps 0 (omega (arith, ok.reps)))
 
   assigns : Assigns (signature t) (suc (concept_steps t.query)) K (object_of x)
   unfolding ground_of
@@ -133,24 +133,24 @@ module _ (t : Task) (formed : WellFormed t) (x : Prime) (ok : Ok t x) (closed : 
       record {
         inside = λ n.
             elim (dec_lt n (nodes t)) [
-              | yes h ↦ object-room (object_of x n) (object_inside t x ok n h)
+              | yes h ↦ object_room (object_of x n) (object_inside t x ok n h)
               | no k ↦ omega (
                 arith,
-                object-beyond n (omega arith),
-                object-room (object_of x (start_node t))
+                object_beyond n (omega arith),
+                object_room (object_of x (start_node t))
                     (object_inside t x ok (start_node t) (omega arith)),
               )
             ];
         constants = λ a h. sym (names_of t formed (ground_of t x) (node_of t x) T part valid a h);
       }
 
-  object-classes : (n : ℕ) → n < nodes t → classes_of t.schema (ground_of t x) T (object_of x n) ≡ set_of x n
-  object-classes n h = ground_classes t.schema (ground_of t x) T (object_of x n) (object_inside t x ok n h) ∙ object_set t x ok n h
+  object_classes : (n : ℕ) → n < nodes t → classes_of t.schema (ground_of t x) T (object_of x n) ≡ set_of x n
+  object_classes n h = ground_classes t.schema (ground_of t x) T (object_of x n) (object_inside t x ok n h) ∙ object_set t x ok n h
 
-  side-object : (m : Side) → side_object K (object_of x) m ≡ object_of x (side_node (mark_node t) m)
+  side_object_lem : (m : Side) → side_object K (object_of x) m ≡ object_of x (side_node (mark_node t) m)
   unfolding ground_of
-  side-object (at_node n) = refl
-  side-object (of_mark k) = refl
+  side_object_lem (at_node n) = refl
+  side_object_lem (of_mark k) = refl
 
   meets : Meets K (object_of x) (asked t)
   unfolding ground_of ties
@@ -158,10 +158,10 @@ module _ (t : Task) (formed : WellFormed t) (x : Prime) (ok : Ok t x) (closed : 
       let G = ground_of t x in
       record {
         members =
-            all_zip (λ f w h. subst (λ (c : ℕ). So (has c f.class)) (sym (object-classes f.node w.1)) h) (asked t).members
+            all_zip (λ f w h. subst (λ (c : ℕ). So (has c f.class)) (sym (object_classes f.node w.1)) h) (asked t).members
             (within t formed).members closed.members;
         equations =
-            all_map (λ f h. rep_object t x ok f.left (side_node (mark_node t) f.right) h ∙ sym (side-object f.right))
+            all_map (λ f h. rep_object t x ok f.left (side_node (mark_node t) f.right) h ∙ sym (side_object_lem f.right))
             (asked t).equations (all_unmapped _ (tie (mark_node t)) (asked t).equations closed.ties);
         edges =
             all_map
@@ -182,36 +182,36 @@ abbrev rep_at : Task → ℕ → ℕ
 rep_at t a = rep_of (primary t) (constant_node t a)
 
 module _ (t : Task) (formed : WellFormed t) where
-  constants-apart : clash t ≡ false → (a : ℕ) → a < t.schema.signature.constants → repeats t.schema.signature (ground t).constants a ≡ false
+  constants_apart : clash t ≡ false → (a : ℕ) → a < t.schema.signature.constants → repeats t.schema.signature (ground t).constants a ≡ false
   unfolding clash ground ground_of
-  constants-apart n a h =
+  constants_apart n a h =
       repeats_none t.schema.signature (ground t).constants (rep_at t) a
       (λ b l q. object_rep t (primary t) (primary_ok t formed) (constant_node t b) (constant_node t a) (omega arith) (omega arith) q)
       (any_none (repeats t.schema.signature (rep_at t)) t.schema.signature.constants n a h)
 
-  pub ground-is : Grounded t (ground t) (node_of t (primary t))
+  pub ground_is : Grounded t (ground t) (node_of t (primary t))
   unfolding ground
-  ground-is = grounded t formed (primary t) (primary_ok t formed) (primary_closed t formed)
+  ground_is = grounded t formed (primary t) (primary_ok t formed) (primary_closed t formed)
 
-  pub forest-is : Grown t.schema (ground t) bare (forest t) ×
+  pub forest_is : Grown t.schema (ground t) bare (forest t) ×
       ((p : ℕ) → p < (ground t).objects → Cov t.schema (ground t) (forest t) t.view p [])
   unfolding forest
-  forest-is = walks_cover t.schema (ground t) t.view
+  forest_is = walks_cover t.schema (ground t) t.view
 
-  query-embeds : In (candidate t) t.query (first t)
+  query_embeds : In (candidate t) t.query (first t)
   unfolding ground
-  query-embeds = embeds t formed (primary t) (primary_ok t formed) (primary_closed t formed) (forest t) forest-is.0
+  query_embeds = embeds t formed (primary t) (primary_ok t formed) (primary_closed t formed) (forest t) forest_is.0
 
   finished : clash t ≡ false
       → Done t (chased t.schema (ground t) (forest t)) (lacks t.schema (ground t) (forest t)) (ground t).objects
       (size (ground t) (forest t)) (first t) (node_of t (primary t))
   finished n =
-      done t formed (ground t) (node_of t (primary t)) (forest t) ground-is forest-is.0 (constants-apart n) query-embeds forest-is.1
+      done t formed (ground t) (node_of t (primary t)) (forest t) ground_is forest_is.0 (constants_apart n) query_embeds forest_is.1
 
   -- no legal state has an object in a query that makes two constants one that are to differ
-  pub clash-held : So (clash t) → Held t.schema t.query t.view
+  pub clash_held : So (clash t) → Held t.schema t.query t.view
   unfolding clash
-  clash-held c = λ I legal d h q.
+  clash_held c = λ I legal d h q.
       let w = fitting t formed I legal d h q in
       let g = w.0 in
       let k = any_found (repeats t.schema.signature (rep_at t)) t.schema.signature.constants c in
@@ -223,27 +223,27 @@ module _ (t : Task) (formed : WellFormed t) where
       (repeats_none t.schema.signature (rep_at t) I.names k.0 (λ b l e. named b (omega (arith, k.1)) ∙ ap g e ∙ sym (named k.0 k.1))
       (legal.names.apart k.0 k.1)))
 
-  pub says-held : Unmarked t.view → In (candidate t) t.view (first t) → Held t.schema t.query t.view
-  says-held plain x = go (clash t) refl
+  pub says_held : Unmarked t.view → In (candidate t) t.view (first t) → Held t.schema t.query t.view
+  says_held plain x = go (clash t) refl
     where
       go : (b : Bool) → clash t ≡ b → Held t.schema t.query t.view
-      go true c = clash-held c
+      go true c = clash_held c
       go false n = held t _ _ _ _ _ _ (finished n) formed plain x
 
-  pub candidate-legal : clash t ≡ false → Legal t.schema (candidate t)
-  candidate-legal n = (opened t _ _ _ _ _ _ (finished n)).0
+  pub candidate_legal : clash t ≡ false → Legal t.schema (candidate t)
+  candidate_legal n = (opened t _ _ _ _ _ _ (finished n)).0
 
-  pub start-selected : clash t ≡ false → Selects (candidate t) t.query (first t)
-  start-selected n = (opened t _ _ _ _ _ _ (finished n)).1
+  pub start_selected : clash t ≡ false → Selects (candidate t) t.query (first t)
+  start_selected n = (opened t _ _ _ _ _ _ (finished n)).1
 
-  pub says-open : clash t ≡ false → (In (candidate t) t.view (first t) → ⊥)
+  pub says_open : clash t ≡ false → (In (candidate t) t.view (first t) → ⊥)
       → Counterexample t.schema t.query t.view (candidate t) (first t)
-  says-open n x = record { legal = candidate-legal n; selected = start-selected n; outside = x }
+  says_open n x = record { legal = candidate_legal n; selected = start_selected n; outside = x }
 
-  pub is-small : concept_steps t.query ≤ query_steps → concept_steps t.view ≤ view_steps → t.schema.signature.constants ≤ max_constants
+  pub is_small : concept_steps t.query ≤ query_steps → concept_steps t.view ≤ view_steps → t.schema.signature.constants ≤ max_constants
       → (candidate t).size ≤ max_candidate
   unfolding ground ground_of forest objects
-  is-small q v c =
+  is_small q v c =
       let G = ground t in
       cond_elim (λ n. n ≤ max_candidate) (lacking t.schema G (forest t)) (λ _. bounded) (λ _. omega (arith, bounded))
     where

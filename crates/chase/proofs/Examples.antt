@@ -26,7 +26,7 @@ use Rattle.records.specs.State.{repeats}
 use Rattle.chase.specs.Ground.{live, object_of, listing, ground_of, ground}
 use Rattle.chase.specs.Forest.{size, kid, parent, asks, classes_of, lacks, make, make_for, walks}
 use Rattle.chase.specs.Candidate.{links, lacking, objects, forest, candidate, first}
-use Rattle.chase.proofs.Answers.{says-held, says-open}
+use Rattle.chase.proofs.Answers.{says_held, says_open}
 
 -- held, by the test that computes
 verdict : Task → Bool
@@ -182,13 +182,13 @@ needing_formed view = record { axioms = declared; query = omega arith }
 
 needing_held : Held (needing (class 1)).schema (class 0) (class 1)
 unfolding model read needing letters
-needing_held = says-held (needing (class 1)) (needing_formed (class 1)) tt refl
+needing_held = says_held (needing (class 1)) (needing_formed (class 1)) tt refl
 
 needing_open : Open (needing (class 2)).schema (class 0) (class 2)
 unfolding model read needing letters
 needing_open = (
   candidate (needing (class 2)),
   first (needing (class 2)),
-  says-open (needing (class 2)) (needing_formed (class 2)) refl
+  says_open (needing (class 2)) (needing_formed (class 2)) refl
       (λ h. false≢true h),
 )

@@ -20,7 +20,7 @@ use Rattle.chase.specs.Task.{Task, signature, task_of}
 use Rattle.chase.specs.Primary.{clash}
 use Rattle.chase.specs.Candidate.{candidate, first}
 use Rattle.chase.specs.Written.{written}
-use Rattle.chase.proofs.Answers.{clash-held, start-selected, says-held, says-open}
+use Rattle.chase.proofs.Answers.{clash_held, start_selected, says_held, says_open}
 use Rattle.records.proofs.Alike.{Alike, alike_sym, in_alike, counterexample_alike}
 use Rattle.chase.proofs.AcceptanceLaws.{Within, accepted_within, accepted_view, unmarked_view}
 use Rattle.chase.proofs.WrittenLaws.{written_accepted, written_alike}
@@ -32,7 +32,7 @@ module _ (schema query view : List ℕ) (legal : AcceptedSchema schema) (asked :
 
   pub clash_judged : So (clash (task_of schema query view)) → Held (schema_of schema) (concept_of query) (concept_of view)
   unfolding task_of
-  clash_judged = clash-held (task_of schema query view) within.formed
+  clash_judged = clash_held (task_of schema query view) within.formed
 
   module _ (apart : clash (task_of schema query view) ≡ false) where
     abbrev t : Task
@@ -50,12 +50,12 @@ module _ (schema query view : List ℕ) (legal : AcceptedSchema schema) (asked :
     written_fits = written_accepted t within apart
 
     pub start_small : first t < (state_of (written t)).size
-    start_small = subst (λ (n : ℕ). first t < n) alike.size (start-selected t within.formed apart).0
+    start_small = subst (λ (n : ℕ). first t < n) alike.size (start_selected t within.formed apart).0
 
     pub start_in_lem : In (state_of (written t)) (concept_of view) (first t) → Held (schema_of schema) (concept_of query) (concept_of view)
     unfolding task_of
     start_in_lem x =
-        says-held t within.formed (unmarked_view schema query view legal asked stored)
+        says_held t within.formed (unmarked_view schema query view legal asked stored)
         (in_alike (signature t) (state_of (written t)) (candidate t) (alike_sym (signature t) (candidate t) (state_of (written t)) alike)
         t.view (first t) declared start_small x)
 
@@ -65,6 +65,6 @@ module _ (schema query view : List ℕ) (legal : AcceptedSchema schema) (asked :
     start_out x =
         counterexample_alike t.schema t.marks t.query t.view (candidate t) (state_of (written t)) (first t) alike
         within.formed.axioms within.formed.query declared
-        (says-open t within.formed apart
+        (says_open t within.formed apart
         (λ y. x (in_alike (signature t) (candidate t) (state_of (written t)) alike t.view (first t) declared
-        (start-selected t within.formed apart).0 y)))
+        (start_selected t within.formed apart).0 y)))

@@ -27,7 +27,7 @@ use Rattle.chase.proofs.ForestLaws.{Grown, ground_size, kid_inside}
 use Rattle.chase.proofs.WalkLaws.{push_all}
 use Rattle.chase.proofs.CandidateLaws.{pair_is, link_inside, room, closing_room}
 use Rattle.chase.proofs.Coverage.{push_here, push_later}
-use Rattle.chase.proofs.Answers.{ground-is, forest-is}
+use Rattle.chase.proofs.Answers.{ground_is, forest_is}
 
 -- the numbers that pass a test, as a list
 abbrev passing : (ℕ → Bool) → ℕ → List ℕ
@@ -152,10 +152,10 @@ module _ (t : Task) (G : Ground) (node : ℕ → ℕ) (T : Forest) (ok : Grounde
 -- .. of the candidate of a task
 module _ (t : Task) (formed : WellFormed t) (P d : ℕ) where
   pub candidate_targets : (e : ℕ) → Related (candidate t) P d e ↔ Mem e (targets t.schema (ground t) (forest t) P d)
-  candidate_targets = targets_are t (ground t) (node_of t (primary t)) (forest t) (ground-is t formed) (forest-is t formed).0 P d
+  candidate_targets = targets_are t (ground t) (node_of t (primary t)) (forest t) (ground_is t formed) (forest_is t formed).0 P d
 
   pub candidate_ascends : Ascends (targets t.schema (ground t) (forest t) P d)
-  candidate_ascends = targets_ascend t (ground t) (node_of t (primary t)) (forest t) (ground-is t formed) (forest-is t formed).0 P d
+  candidate_ascends = targets_ascend t (ground t) (node_of t (primary t)) (forest t) (ground_is t formed) (forest_is t formed).0 P d
 
   -- a value of an object is an object
   pub target_inside : (e : ℕ) → d < (candidate t).size → Related (candidate t) P d e → e < (candidate t).size
@@ -164,8 +164,8 @@ module _ (t : Task) (formed : WellFormed t) (P d : ℕ) where
       let G = ground t in
       let T = forest t in
       let node = node_of t (primary t) in
-      let ok = ground-is t formed in
-      let valid = (forest-is t formed).0 in
+      let ok = ground_is t formed in
+      let valid = (forest_is t formed).0 in
       ⊎_elim
       (λ p.
       ⊎_elim (λ l. omega (arith, (link_inside t G node ok P d e l).1, ground_size G T, room S G T))

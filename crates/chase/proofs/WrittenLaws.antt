@@ -32,7 +32,7 @@ use Rattle.records.proofs.General.Ascending.{Between, between_none, between_one,
 use Rattle.chase.proofs.GroundLaws.{node_of}
 use Rattle.chase.proofs.ForestLaws.{ground_size}
 use Rattle.chase.proofs.CandidateLaws.{room}
-use Rattle.chase.proofs.Answers.{names_of, ground-is, forest-is, candidate-legal, is-small}
+use Rattle.chase.proofs.Answers.{names_of, ground_is, forest_is, candidate_legal, is_small}
 use Rattle.chase.proofs.AcceptanceLaws.{Within}
 use Rattle.chase.proofs.TargetLaws.{candidate_targets, candidate_ascends, target_inside}
 use Rattle.chase.proofs.PairLaws.{ground_edges}
@@ -57,17 +57,17 @@ module _ (t : Task) (ok : Within t) where
   n = objects t.schema (ground t) (forest t)
 
   objects_few : n ≤ max_candidate
-  objects_few = is-small t ok.formed ok.query ok.view ok.constants
+  objects_few = is_small t ok.formed ok.query ok.view ok.constants
 
   name_of : (a : ℕ) → a < S.signature.constants → (candidate t).names a ≡ G.constants a
-  name_of = names_of t ok.formed G (node_of t (primary t)) T (ground-is t ok.formed) (forest-is t ok.formed).0
+  name_of = names_of t ok.formed G (node_of t (primary t)) T (ground_is t ok.formed) (forest_is t ok.formed).0
 
   name_inside : (a : ℕ) → a < S.signature.constants → G.constants a < n
   name_inside a h =
-      omega (arith, (ground-is t ok.formed).constants a h, ground_size G T, room S G T)
+      omega (arith, (ground_is t ok.formed).constants a h, ground_size G T, room S G T)
 
   mark_inside : (k : ℕ) → G.marks k < n
-  mark_inside k = omega (arith, (ground-is t ok.formed).marks k, ground_size G T, room S G T)
+  mark_inside k = omega (arith, (ground_is t ok.formed).marks k, ground_size G T, room S G T)
 
   -- Order.
 
@@ -246,7 +246,7 @@ module _ (t : Task) (ok : Within t) where
   written_size = state_objects n (facts S G T)
 
   names_kept : clash t ≡ false → Names (signature t) (candidate t)
-  names_kept c = names_allowed S.signature.marks t.marks S.signature (candidate t) (candidate-legal t ok.formed c).names
+  names_kept c = names_allowed S.signature.marks t.marks S.signature (candidate t) (candidate_legal t ok.formed c).names
 
   pub written_accepted : clash t ≡ false → AcceptedState (signature t) (written t)
   unfolding written

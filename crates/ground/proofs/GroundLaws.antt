@@ -13,7 +13,7 @@ use Rattle.chase.specs.Facts.{Edge}
 use Rattle.chase.specs.Task.{Task, WellFormed, nodes, start_node, constant_node, mark_node, asked}
 use Rattle.chase.specs.Primary.{Prime, rep_of, set_of, primary}
 use Rattle.chase.specs.Ground.{set_at, live, object_of, listing, renumber, ground_of, ground}
-use Rattle.chase.proofs.Answers.{ground-is}
+use Rattle.chase.proofs.Answers.{ground_is}
 use Rattle.records.proofs.General.FiniteLaws.{count_le}
 use Rattle.records.proofs.General.ListLaws.{get_d_map}
 use Rattle.primary.specs.Formed.{prime}
@@ -75,4 +75,4 @@ module _ (t : Task) (formed : WellFormed t) (g : ℕ) (objects fs : List ℕ) (s
       let e : set_at (ground t) d ≡ classes_in (get_or objects d 0)
       = ap (λ (l : List ℕ). get_or l d 0) (sym same.sets) ∙ get_d_map classes_in (take g objects) d (omega (arith, length-take-le g objects room))
       ∙ ap classes_in (get_or-take g objects d 0 h) in
-      omega (arith, (ground-is t formed).small d (omega (arith, same.objects)), pow_mono few)
+      omega (arith, (ground_is t formed).small d (omega (arith, same.objects)), pow_mono few)

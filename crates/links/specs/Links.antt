@@ -1,5 +1,5 @@
 -- Document 02, note 1: the links of an attribute, which are its pairs, whose first object a concept selects, counted from both
--- ends. The two counts are equal in every state: links_agree of proofs/LinkLaws.antt, and for any words answers-agree.
+-- ends. The two counts are equal in every state: links_agree of proofs/LinkLaws.antt, and for any words answers_agree.
 -- (is_in is the test of In: is_in_iff of records.)
 use Rattle.std.specs.Prelude.{ℕ, ◌<◌, List, [], ◌∷◌, cond, ◌&&◌}
 use Rattle.records.specs.declared.schema.Signature.{Signature}
