@@ -126,5 +126,5 @@ fn files() {
             count += 1;
         }
     }
-    assert!(count >= 18, "{count} files");
+    assert!(count >= 21, "{count} files");
 }
