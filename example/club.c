@@ -1,6 +1,6 @@
 /* The rowing club: may the query "rowers who attend a session" be read from the stored list of the view "persons whose strap
  * has recorded a beat of a session"? And the other way round? And where may those beats be looked for whose strap's wearer is
- * also the session's stroke? With target/staticlib built:
+ * also the session's stroke? With the library built (`tools/build bikuvoa_c`):
  *
  *   cc -Iinclude example/club.c target/staticlib/libbikuvoa_c.a -o club && ./club */
 #include "bikuvoa.h"

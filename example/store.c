@@ -1,7 +1,7 @@
 /* A store that reads queries from stored lists. It keeps views, narrow ones first, each with the list of its objects. A query
  * is read from the first list that is sure to have all its objects, and filtered unless the list is sure to have no others.
- * At the end it counts who attends what, shows what each view names, and lists the classes for a phone. With target/staticlib
- * built:
+ * At the end it counts who attends what, shows what each view names, and lists the classes for a phone. With the library built
+ * (`tools/build bikuvoa_c`):
  *
  *   cc -Iinclude example/store.c target/staticlib/libbikuvoa_c.a -o store && ./store */
 #include "bikuvoa.h"

@@ -36,9 +36,9 @@ class Edit:
         return all(self.fields.get(field, "").strip() for field in ("error", "fact", "harmless"))
 
     def has_a_line(self):
-        """Whether the line to be edited stands in its file, once."""
-        lines = (self.path.parent.parent / self.fields["file"]).read_text().splitlines()
-        return lines.count(self.fields["old"]) == 1
+        """Whether the line to be edited stands in its file, once, and in no other line, where rt would find it too."""
+        text = (self.path.parent.parent / self.fields["file"]).read_text()
+        return text.splitlines().count(self.fields["old"]) == text.count(self.fields["old"]) == 1
 
     def row(self):
         def code(line):
@@ -67,17 +67,22 @@ def harmless(names):
     chosen = [edit for edit in edits() if not names or edit.crate in names]
     with tempfile.TemporaryDirectory() as folder:
         copy = pathlib.Path(folder) / "copy"
-        shutil.copytree(ROOT, copy, ignore=shutil.ignore_patterns(".git", "must-fail"))
+        # rt begins with what checks kept in other copies on this machine, this one too.
+        shutil.copytree(ROOT, copy, ignore=shutil.ignore_patterns(".git", "must-fail", "out", "target"))
         for edit in chosen:
             path = copy / edit.path.relative_to(ROOT)
             path.parent.mkdir(exist_ok=True)
             f = edit.fields
             path.write_text(f"# {edit.name}\nfile: {f['file']}\nold: {f['old']}\nnew: {f['harmless']}\n")
         run = subprocess.run(["rt", "must-fail", *names], cwd=copy, capture_output=True, text=True)
-    accepted = set(re.findall(r"^rt: must-fail (\S+): NOT REFUSED", run.stdout + run.stderr, re.M))
-    refused = [f"{e.crate}/{e.name}" for e in chosen if f"{e.crate}/{e.name}" not in accepted]
-    print(f"harmless: {len(accepted)} accepted" + (f"; refused: {' '.join(refused)}" if refused else ""))
-    return 1 if refused else 0
+    said = dict(re.findall(r"^rt: must-fail (\S+)\.edit: (.*)$", run.stdout + run.stderr, re.M))
+    # What is refused only by a limit, cannot be read or has not been tried is not accepted either.
+    others = {name: said.get(name, "rt says nothing of it") for name in (f"{e.crate}/{e.name}" for e in chosen)
+              if not said.get(name, "").startswith("NOT REFUSED")}
+    for name, why in others.items():
+        print(f"harmless: {name}: {why}")
+    print(f"harmless: {len(chosen) - len(others)} accepted, {len(others)} not")
+    return 1 if others or not chosen else 0
 
 
 if __name__ == "__main__":

@@ -1,4 +1,4 @@
-//! Links the proved library. `rt staticlib bikuvoa_c` builds it in this
+//! Links the proved library. `tools/build bikuvoa_c` builds it in this
 //! repository; where it lies elsewhere, BIKUVOA_LIB_DIR names its folder.
 
 use std::env;
@@ -16,7 +16,7 @@ fn main() {
     println!("cargo::rerun-if-changed={}", archive.display());
     if !archive.is_file() {
         println!(
-            "cargo::error={} is not there: run `rt staticlib bikuvoa_c`, or let {LIB_DIR} name its folder",
+            "cargo::error={} is not there: run `tools/build bikuvoa_c`, or let {LIB_DIR} name its folder",
             archive.display()
         );
         return;

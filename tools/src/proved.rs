@@ -3,7 +3,7 @@
 use crate::answer::{Answerer, Out};
 use crate::call::Call;
 
-/// The library that `rt staticlib bikuvoa_c` builds.
+/// The library that `tools/build bikuvoa_c` builds.
 pub struct Proved;
 
 impl Answerer for Proved {

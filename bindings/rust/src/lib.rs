@@ -71,7 +71,7 @@
 //!
 //! # Linking
 //!
-//! In the repository of the library, `rt staticlib bikuvoa_c` writes the archive
+//! In the repository of the library, `tools/build bikuvoa_c` writes the archive
 //! that this crate links. Where the archive lies elsewhere, let the environment
 //! variable `BIKUVOA_LIB_DIR` name its folder.
 //!
