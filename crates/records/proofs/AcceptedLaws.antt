@@ -1,8 +1,8 @@
 -- What an accepted record gives its readers. Each law takes the answer of the check, or the one refusal that it rests on.
 use Prim.Native.Nat.{ℕ, zero, ◌+◌, ◌-◌, ◌≤◌, ◌<◌}
-use mathlib.Core.Bool.{Bool, false, So, not, ◌&&◌, ◌||◌}
+use mathlib.Core.Bool.{Bool, false, So, cond, not, ◌&&◌, ◌||◌}
 use mathlib.Core.List.{List}
-use mathlib.Core.Path.{◌≡◌, refl, ap}
+use mathlib.Core.Path.{◌≡◌, refl, sym, ap}
 use native.Mathlib.Omega.{arith}
 use lib.Dec.{eqb, ltb}
 use borrow.Author.Tests.{ltb-true, ltb-false, le-ltb, eqb-true, not-false}
@@ -11,9 +11,11 @@ use Rattle.records.specs.declared.schema.Axiom.{Axiom}
 use Rattle.records.specs.declared.schema.Axiom.TheVariants.{Subclass, Typing, Necessary, Single, Relates}
 use Rattle.records.specs.declared.token.Token.{Token}
 use Rattle.records.specs.declared.token.Token.TheVariants.{Class, Everything, Constant, Both, Empty, Forward, Backward, Reached, Common, Mark}
-use Rattle.records.specs.declared.schema.SchemaAnswer.TheVariants as schema
-use Rattle.records.specs.declared.concept.ConceptAnswer.TheVariants as concept
-use Rattle.records.specs.declared.state.StateAnswer.TheVariants as state
+use Rattle.records.specs.declared.refusal.Refusal.{Refusal}
+use Rattle.records.specs.declared.refusal.Refusal.TheVariants as refusal
+use Rattle.std.specs.Prelude.{Option, None, Result, Ok, Err}
+use Rattle.std.proofs.lemmas.Option.{none-some}
+use Rattle.records.specs.Refusal.{refusal_in}
 use Rattle.records.specs.Finite.{any, count}
 use Rattle.records.specs.Layout.{schema_layout, concept_layout, state_layout, size_at, entries, left_at, right_at, max_classes, max_attributes, max_constants, max_axioms, max_marks, max_tokens, max_objects, max_facts}
 use Rattle.records.specs.SchemaRecord.{signature_of, schema_of, axiom_kind}
@@ -23,9 +25,9 @@ use Rattle.records.specs.StateRecord.{objects, state_of}
 use Rattle.records.specs.Marks.{allows}
 use Rattle.records.specs.State.{repeats}
 use Rattle.records.specs.Shape.{misshapen, outside}
-use Rattle.records.specs.SchemaRefusal.{oversized, declares, faulty_axiom, refusal_1, refusal_2, refusal_14, schema_answer, schema_number, AcceptedSchema}
-use Rattle.records.specs.ConceptRefusal.{suits, faulty_token, steps, refusal_3, refusal_4, refusal_5, refusal_6, concept_answer, concept_number, AcceptedConcept}
-use Rattle.records.specs.StateRefusal.{faulty_fact, ascends, descends, names_at, misnames, marks_at, mismarks, refusal_7, refusal_8, refusal_9, refusal_15, refusal_10, state_answer, state_number, AcceptedState}
+use Rattle.records.specs.SchemaRefusal.{oversized, declares, faulty_axiom, refusal_1, refusal_2, refusal_14, schema_answer, AcceptedSchema}
+use Rattle.records.specs.ConceptRefusal.{suits, faulty_token, steps, refusal_3, refusal_4, refusal_5, refusal_6, concept_answer, AcceptedConcept}
+use Rattle.records.specs.StateRefusal.{faulty_fact, ascends, descends, names_at, misnames, marks_at, mismarks, refusal_7, refusal_8, refusal_9, refusal_15, refusal_10, state_answer, AcceptedState}
 use Rattle.records.specs.Helpers.Steps.{concept_steps}
 use Rattle.records.specs.Helpers.Reading.{start_of, HasConcept, step_token, step_number}
 use Rattle.records.specs.Helpers.InRange.{AxiomInRange, TokenInRange}
@@ -33,18 +35,22 @@ use Rattle.records.proofs.General.BoolLaws.{or_false, or_false_left, or_false_ri
 use Rattle.records.proofs.General.FiniteLaws.{any_none}
 use Rattle.records.proofs.ReadingLaws.{number_concept, whole_concept}
 
--- The answer "accepted" is given only where no test applies.
+-- Nothing is refused only where no test applies.
 
-pub faultless_schema : (w : List ℕ) → schema_number (schema_answer w) ≡ 0 → (refusal_1 w ≡ false) × (refusal_14 w ≡ false) × (refusal_2 w ≡ false)
+-- the test before an answer that is no refusal
+past : {A : Type 0} (r : Refusal) (rest : Result A Refusal) (test : Bool) → refusal_in (cond test (Err r) rest) ≡ None → (test ≡ false) × (refusal_in rest ≡ None)
+past r rest test e = not_first (λ x. refusal_in x ≡ None) (Err r) rest (λ h. none-some r (sym h)) test e
+
+pub faultless_schema : (w : List ℕ) → refusal_in (schema_answer w) ≡ None → (refusal_1 w ≡ false) × (refusal_14 w ≡ false) × (refusal_2 w ≡ false)
 unfolding schema_answer
 faultless_schema w e =
-    let (a, p) = not_first (λ x. schema_number x ≡ 0) schema.BadShape _ (λ h. omega arith) (refusal_1 w) e in
-    let (b, q) = not_first (λ x. schema_number x ≡ 0) schema.BadLoose _ (λ h. omega arith) (refusal_14 w) p in
-    let (c, r) = not_first (λ x. schema_number x ≡ 0) schema.BadAxiom _ (λ h. omega arith) (refusal_2 w) q in (a, b, c)
+    let (a, p) = past refusal.SchemaShape _ (refusal_1 w) e in
+    let (b, q) = past refusal.SchemaLoose _ (refusal_14 w) p in
+    let (c, r) = past refusal.SchemaAxiom _ (refusal_2 w) q in (a, b, c)
 
 module _ (w : List ℕ) (ok : AcceptedSchema w) where
   passes_schema : (refusal_1 w ≡ false) × (refusal_14 w ≡ false) × (refusal_2 w ≡ false)
-  passes_schema = faultless_schema w (ap schema_number ok)
+  passes_schema = faultless_schema w (ap refusal_in ok)
 
   pub passes_1 : refusal_1 w ≡ false
   passes_1 = passes_schema.0
@@ -53,18 +59,18 @@ module _ (w : List ℕ) (ok : AcceptedSchema w) where
   passes_2 = passes_schema.2
 
 module _ (limit : ℕ) (s : Signature) (w : List ℕ) where
-  pub faultless_concept : concept_number (concept_answer limit s w) ≡ 0
+  pub faultless_concept : refusal_in (concept_answer limit s w) ≡ None
       → (refusal_3 w ≡ false) × (refusal_4 s w ≡ false) × (refusal_5 w ≡ false) × (refusal_6 limit w ≡ false)
   unfolding concept_answer
   faultless_concept e =
-      let (a, p) = not_first (λ x. concept_number x ≡ 0) concept.BadShape _ (λ h. omega arith) (refusal_3 w) e in
-      let (b, q) = not_first (λ x. concept_number x ≡ 0) concept.BadToken _ (λ h. omega arith) (refusal_4 s w) p in
-      let (c, r) = not_first (λ x. concept_number x ≡ 0) concept.BadPile _ (λ h. omega arith) (refusal_5 w) q in
-      let (d, t) = not_first (λ x. concept_number x ≡ 0) concept.BadSteps _ (λ h. omega arith) (refusal_6 limit w) r in (a, b, c, d)
+      let (a, p) = past refusal.ConceptShape _ (refusal_3 w) e in
+      let (b, q) = past refusal.ConceptToken _ (refusal_4 s w) p in
+      let (c, r) = past refusal.ConceptPile _ (refusal_5 w) q in
+      let (d, t) = past refusal.ConceptSteps _ (refusal_6 limit w) r in (a, b, c, d)
 
 module _ (limit : ℕ) (s : Signature) (w : List ℕ) (ok : AcceptedConcept limit s w) where
   passes_concept : (refusal_3 w ≡ false) × (refusal_4 s w ≡ false) × (refusal_5 w ≡ false) × (refusal_6 limit w ≡ false)
-  passes_concept = faultless_concept limit s w (ap concept_number ok)
+  passes_concept = faultless_concept limit s w (ap refusal_in ok)
 
   pub passes_3 : refusal_3 w ≡ false
   passes_3 = passes_concept.0
@@ -89,19 +95,19 @@ module _ (limit : ℕ) (s : Signature) (w : List ℕ) (ok : AcceptedConcept limi
           rw (z.0, le-ltb more (steps w) (omega (arith, ltb-false limit (steps w) z.1))) refl
 
 module _ (s : Signature) (w : List ℕ) where
-  pub faultless_state : state_number (state_answer s w) ≡ 0
+  pub faultless_state : refusal_in (state_answer s w) ≡ None
       → (refusal_7 w ≡ false) × (refusal_8 s w ≡ false) × (refusal_9 w ≡ false) × (refusal_15 w ≡ false) × (refusal_10 s w ≡ false)
   unfolding state_answer
   faultless_state e =
-      let (a, p) = not_first (λ x. state_number x ≡ 0) state.BadShape _ (λ h. omega arith) (refusal_7 w) e in
-      let (b, q) = not_first (λ x. state_number x ≡ 0) state.BadFact _ (λ h. omega arith) (refusal_8 s w) p in
-      let (c, r) = not_first (λ x. state_number x ≡ 0) state.BadOrder _ (λ h. omega arith) (refusal_9 w) q in
-      let (d, t) = not_first (λ x. state_number x ≡ 0) state.BadClassFacts _ (λ h. omega arith) (refusal_15 w) r in
-      let (f, u) = not_first (λ x. state_number x ≡ 0) state.BadConstants _ (λ h. omega arith) (refusal_10 s w) t in (a, b, c, d, f)
+      let (a, p) = past refusal.StateShape _ (refusal_7 w) e in
+      let (b, q) = past refusal.StateFact _ (refusal_8 s w) p in
+      let (c, r) = past refusal.StateOrder _ (refusal_9 w) q in
+      let (d, t) = past refusal.StateClassFacts _ (refusal_15 w) r in
+      let (f, u) = past refusal.StateNames _ (refusal_10 s w) t in (a, b, c, d, f)
 
 module _ (s : Signature) (w : List ℕ) (ok : AcceptedState s w) where
   passes_state : (refusal_7 w ≡ false) × (refusal_8 s w ≡ false) × (refusal_9 w ≡ false) × (refusal_15 w ≡ false) × (refusal_10 s w ≡ false)
-  passes_state = faultless_state s w (ap state_number ok)
+  passes_state = faultless_state s w (ap refusal_in ok)
 
   pub passes_7 : refusal_7 w ≡ false
   passes_7 = passes_state.0

@@ -2,24 +2,30 @@
 use Prim.Native.Nat.{ℕ, zero, suc, ◌+◌, ◌≤◌, ◌<◌}
 use mathlib.Core.List.{List, [], ◌∷◌, ◌++◌, append_assoc}
 use mathlib.Core.Bool.{Bool, true, false, So, cond, not}
-use mathlib.Core.Path.{◌≡◌, refl, sym, ◌∙◌}
+use mathlib.Core.Path.{◌≡◌, refl, sym, ap, ◌∙◌}
 use native.Mathlib.Decide.{ℕ_discrete}
 use native.Mathlib.Numerals.{add-one}
 use native.Mathlib.Omega.{arith}
 use borrow.Author.Tests.{eqb-true, ltb-false, not-false}
 use lib.Dec.{eqb, ltb}
 use lib.ListN.{length}
+use Rattle.std.specs.Prelude.{Option, Some, None, Result, Ok, Err}
+use Rattle.std.proofs.lemmas.Option.{none-some}
 use Rattle.records.specs.declared.schema.Signature.{Signature}
+use Rattle.records.specs.declared.refusal.Refusal.{Refusal}
+use Rattle.records.specs.declared.refusal.Refusal.TheVariants as refusal
 use Rattle.records.specs.Finite.{sum}
 use Rattle.records.specs.Layout.{view_steps, max_views, no_marks}
 use Rattle.records.specs.Marks.{allowing}
-use Rattle.records.specs.ConceptRefusal.{concept_answer, concept_number, AcceptedConcept}
+use Rattle.records.specs.Refusal.{refusal_in}
+use Rattle.records.specs.ConceptRefusal.{concept_answer, AcceptedConcept}
 use Rattle.records.specs.CatalogueRecord.{views, length_at, start_at, view_at}
-use Rattle.records.specs.CatalogueRefusal.{refusal_13, view_numbers, catalogue_number, AcceptedCatalogue}
+use Rattle.records.specs.Outcome.{outcome}
+use Rattle.records.specs.CatalogueRefusal.{refusal_13, layout_refusal, view_refusals, catalogue_answer, AcceptedCatalogue}
 use Rattle.records.specs.Shape.{outside}
 use Rattle.records.proofs.General.BoolLaws.{or_false}
 use Rattle.records.proofs.General.SumLaws.{sum_turn}
-use Rattle.records.proofs.OutcomeLaws.{Passed, Turned, first_at, first_none, first_passed, passed_concept}
+use Rattle.records.proofs.OutcomeLaws.{Passed, first_at, first_none, first_passed, outcome_refused, outcome_answered, outcome_is, passed_concept}
 
 module _ (w : List ℕ) where
   pub start_first : start_at w 0 ≡ 1 + views w
@@ -70,63 +76,76 @@ module _ (w : List ℕ) where
       let l = laid_of e in
       (omega (arith, l.few), omega (arith, l.ends, start_more i, start_mono (i + 1) (views w) (omega arith)))
 
--- Numbers that are all 0: in two parts, and one among them.
-passed_append : (l m : List ℕ) → Passed l → Passed m → Passed (l ++ m)
+-- Refusals of which none is there: in two parts, and one among them.
+passed_append : (l m : List (Option Refusal)) → Passed l → Passed m → Passed (l ++ m)
 passed_append [] m p q = q
-passed_append (n ∷ l) m p q = (p.0, passed_append l m p.1 q)
+passed_append (r ∷ l) m p q = (p.0, passed_append l m p.1 q)
 
-passed_at : (l : List ℕ) (n : ℕ) (m : List ℕ) → Passed (l ++ n ∷ m) → n ≡ 0
-passed_at [] n m p = p.0
-passed_at (x ∷ l) n m p = passed_at l n m p.1
+passed_at : (l : List (Option Refusal)) (r : Option Refusal) (m : List (Option Refusal)) → Passed (l ++ r ∷ m) → r ≡ None
+passed_at [] r m p = p.0
+passed_at (x ∷ l) r m p = passed_at l r m p.1
 
--- the number of one view
-abbrev view_number : Signature → List ℕ → ℕ → ℕ
-view_number s w i = concept_number (concept_answer view_steps (allowing no_marks s) (view_at w i))
+-- the refusal of one view
+abbrev view_refusal : Signature → List ℕ → ℕ → Option Refusal
+view_refusal s w i = refusal_in (concept_answer view_steps (allowing no_marks s) (view_at w i))
 
 module _ (s : Signature) (w : List ℕ) where
-  pub numbers_none : Passed (view_numbers s w 0)
-  unfolding view_numbers
-  numbers_none = tt
+  pub views_none : Passed (view_refusals s w 0)
+  unfolding view_refusals
+  views_none = tt
 
-  pub numbers_more : (i : ℕ) → Passed (view_numbers s w i) → view_number s w i ≡ 0 → Passed (view_numbers s w (suc i))
-  unfolding view_numbers
-  numbers_more i p e = passed_append (view_numbers s w i) (view_number s w i ∷ []) p (e, tt)
+  pub views_more : (i : ℕ) → Passed (view_refusals s w i) → view_refusal s w i ≡ None → Passed (view_refusals s w (suc i))
+  unfolding view_refusals
+  views_more i p e = passed_append (view_refusals s w i) (view_refusal s w i ∷ []) p (e, tt)
 
-  -- the number of view i stands after those of the views before it
-  numbers_split : (n i : ℕ) → i < n → (rest : List ℕ) × (view_numbers s w n ≡ view_numbers s w i ++ view_number s w i ∷ rest)
-  unfolding view_numbers
-  numbers_split zero i h = absurd (omega arith)
-  numbers_split (suc n) i h =
+  -- the refusal of view i stands after those of the views before it
+  views_split : (n i : ℕ) → i < n → (rest : List (Option Refusal)) × (view_refusals s w n ≡ view_refusals s w i ++ view_refusal s w i ∷ rest)
+  unfolding view_refusals
+  views_split zero i h = absurd (omega arith)
+  views_split (suc n) i h =
       elim (ℕ_discrete i n) [
         | yes e ↦ ([], rw e refl)
         | no d ↦
-            let (rest, e) = numbers_split n i (omega arith) in
-            (rest ++ (view_number s w n ∷ []), rw e (append_assoc (view_numbers s w i) (view_number s w i ∷ rest) (view_number s w n ∷ [])))
+            let (rest, e) = views_split n i (omega arith) in
+            (rest ++ (view_refusal s w n ∷ []), rw e (append_assoc (view_refusals s w i) (view_refusal s w i ∷ rest) (view_refusal s w n ∷ [])))
       ]
 
   -- The check returns at the first refusal that applies.
-  pub catalogue_13 : So (refusal_13 w) → 13 ≡ catalogue_number s w
-  catalogue_13 e = sym (rw e (first_at [] (view_numbers s w (views w)) 13 tt refl))
+  pub catalogue_13 : So (refusal_13 w) → catalogue_answer s w ≡ Err refusal.CatalogueLayout
+  unfolding catalogue_answer
+  catalogue_13 e =
+      outcome_refused Err (Ok tt) (layout_refusal w ∷ view_refusals s w (views w))
+      (rw e (first_at [] (view_refusals s w (views w)) refusal.CatalogueLayout tt))
 
-  pub catalogue_view : refusal_13 w ≡ false → (i : ℕ) → i < views w → Passed (view_numbers s w i) → {n : ℕ} → Turned n (view_number s w i)
-      → n ≡ catalogue_number s w
-  catalogue_view e i h p t =
-      let (rest, q) = numbers_split (views w) i h in
-      t.0 ∙ sym (rw (e, q) (first_at (0 ∷ view_numbers s w i) rest (view_number s w i) (refl, p) t.1))
+  pub catalogue_view : refusal_13 w ≡ false → (i : ℕ) → i < views w → Passed (view_refusals s w i) → (r : Refusal) → view_refusal s w i ≡ Some r
+      → catalogue_answer s w ≡ Err r
+  unfolding catalogue_answer
+  catalogue_view e i h p r z =
+      let (rest, q) = views_split (views w) i h in
+      outcome_refused Err (Ok tt) (layout_refusal w ∷ view_refusals s w (views w))
+      (rw (e, q, z) (first_at (None ∷ view_refusals s w i) rest r (refl, p)))
 
-  pub catalogue_none : refusal_13 w ≡ false → Passed (view_numbers s w (views w)) → 0 ≡ catalogue_number s w
-  catalogue_none e p = sym (rw e (first_none (0 ∷ view_numbers s w (views w)) (refl, p)))
+  pub catalogue_none : refusal_13 w ≡ false → Passed (view_refusals s w (views w)) → catalogue_answer s w ≡ Ok tt
+  unfolding catalogue_answer
+  catalogue_none e p =
+      outcome_answered Err (Ok tt) (layout_refusal w ∷ view_refusals s w (views w))
+      (rw e (first_none (None ∷ view_refusals s w (views w)) (refl, p)))
 
   -- What an accepted catalogue tells: its layout, and that its views are accepted.
+  nothing_refused : AcceptedCatalogue s w → Passed (layout_refusal w ∷ view_refusals s w (views w))
+  unfolding catalogue_answer
+  nothing_refused a =
+      outcome_is Err (Ok tt) (λ x. refusal_in x ≡ None → Passed (layout_refusal w ∷ view_refusals s w (views w)))
+      (layout_refusal w ∷ view_refusals s w (views w)) (λ r e. absurd (none-some r (sym e))) (λ p e. p) (ap refusal_in a)
+
   pub accepted_layout : AcceptedCatalogue s w → refusal_13 w ≡ false
-  accepted_layout a = pick (refusal_13 w) (first_passed (cond (refusal_13 w) 13 0 ∷ view_numbers s w (views w)) a).0
+  accepted_layout a = pick (refusal_13 w) (nothing_refused a).0
     where
-      pick : (b : Bool) → ◌≡◌ {A = ℕ} (cond b 13 0) 0 → b ≡ false
-      pick true e = absurd (omega arith)
+      pick : (b : Bool) → cond b (Some refusal.CatalogueLayout) None ≡ None → b ≡ false
+      pick true e = absurd (none-some refusal.CatalogueLayout (sym e))
       pick false e = refl
 
   pub accepted_view : AcceptedCatalogue s w → (i : ℕ) → i < views w → AcceptedConcept view_steps (allowing no_marks s) (view_at w i)
   accepted_view a i h =
-      let (rest, q) = numbers_split (views w) i h in
-      let p = (first_passed (cond (refusal_13 w) 13 0 ∷ view_numbers s w (views w)) a).1 in
-      passed_concept view_steps (allowing no_marks s) (view_at w i) (passed_at (view_numbers s w i) (view_number s w i) rest (rw q at p))
+      let (rest, q) = views_split (views w) i h in
+      passed_concept view_steps (allowing no_marks s) (view_at w i) (passed_at (view_refusals s w i) (view_refusal s w i) rest (rw q at (nothing_refused a).1))

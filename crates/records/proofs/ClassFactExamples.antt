@@ -8,13 +8,14 @@ use Rattle.records.specs.State.{repeats}
 use Rattle.records.specs.Layout.{state_layout, size_at, entries, left_at, right_at, length_for}
 use Rattle.records.specs.StateRecord.{objects, class_facts, kind_at, object_at, is_class_fact, says, says_pair, state_of}
 use Rattle.records.specs.Shape.{misshapen}
-use Rattle.records.specs.StateRefusal.{refusal_7, faulty_fact, refusal_8, ascends, refusal_9, refusal_15, refusal_10, state_answer, state_number}
+use Rattle.records.specs.StateRefusal.{refusal_7, faulty_fact, refusal_8, ascends, refusal_9, refusal_15, refusal_10, state_answer}
+use Rattle.records.specs.Refusal.{returned}
 use Rattle.records.specs.Encoding.{record_of, fact, left_word, right_word, state_sizes}
 use Rattle.records.proofs.Examples.{declaring}
 
 -- the number of a state that says it has so many class facts, and has these facts
 abbrev gets : ℕ → List ℕ → ℕ
-gets said facts = state_number (state_answer (declaring 2 1 1 0) (record_of left_word right_word (state_sizes 2 (length facts) said) facts))
+gets said facts = returned (state_answer (declaring 2 1 1 0) (record_of left_word right_word (state_sizes 2 (length facts) said) facts))
 
 -- a member of class 1, a pair, and the constant's object
 abbrev member : ℕ

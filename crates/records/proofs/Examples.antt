@@ -22,9 +22,10 @@ use Rattle.records.specs.SchemaRecord.{signature_of, axiom_kind, axiom_of, schem
 use Rattle.records.specs.ConceptRecord.{token_of, token_at, pile_after, concept_of}
 use Rattle.records.specs.StateRecord.{objects, class_facts, kind_at, object_at, is_class_fact, says, says_pair, state_of}
 use Rattle.records.specs.Shape.{misshapen}
-use Rattle.records.specs.SchemaRefusal.{refusal_1, refusal_14, faulty_axiom, refusal_2, schema_answer, schema_number}
-use Rattle.records.specs.ConceptRefusal.{refusal_3, faulty_token, refusal_4, refusal_5, steps, refusal_6, concept_answer, concept_number}
-use Rattle.records.specs.StateRefusal.{refusal_7, faulty_fact, refusal_8, ascends, refusal_9, refusal_15, refusal_10, state_answer, state_number}
+use Rattle.records.specs.SchemaRefusal.{refusal_1, refusal_14, faulty_axiom, refusal_2, schema_answer}
+use Rattle.records.specs.Refusal.{returned}
+use Rattle.records.specs.ConceptRefusal.{refusal_3, faulty_token, refusal_4, refusal_5, steps, refusal_6, concept_answer}
+use Rattle.records.specs.StateRefusal.{refusal_7, faulty_fact, refusal_8, ascends, refusal_9, refusal_15, refusal_10, state_answer}
 use Rattle.records.specs.Encoding.{record_of, schema_record, concept_record, steps_in, fact, class_facts_in, state_record}
 use Rattle.records.specs.Executable.{is_in, first_broken}
 use Rattle.records.proofs.General.BoolLaws.{or_true_cases, false_of_not, and_map, and_three_map, same_iff}
@@ -61,12 +62,12 @@ Deserves S I (broken k) = FirstBroken S I k
 
 abbrev pub Accepted : List ℕ → List ℕ → Type 0
 Accepted schema state =
-    (schema_number (schema_answer schema) ≡ 0) × (state_number (state_answer (signature_of schema) state) ≡ 0)
+    (returned (schema_answer schema) ≡ 0) × (returned (state_answer (signature_of schema) state) ≡ 0)
 
 abbrev pub True : Row → Type 0
 True (selects schema state concept objects) =
     Accepted schema state
-    × (concept_number (concept_answer query_steps (signature_of schema) concept) ≡ 0)
+    × (returned (concept_answer query_steps (signature_of schema) concept) ≡ 0)
     × ((d : ℕ) → Selects (state_of state) (concept_of concept) d ↔ So (listed objects d))
 True (judged schema state verdict) = Accepted schema state × Deserves (schema_of schema) (state_of state) verdict
 
@@ -128,7 +129,7 @@ table =
 
 accepts : List ℕ → List ℕ → Bool
 accepts schema state =
-    eqb (schema_number (schema_answer schema)) 0 && eqb (state_number (state_answer (signature_of schema) state)) 0
+    eqb (returned (schema_answer schema)) 0 && eqb (returned (state_answer (signature_of schema) state)) 0
 
 accepts_true : (schema state : List ℕ) → So (accepts schema state) → Accepted schema state
 unfolding accepts
@@ -186,7 +187,7 @@ deserves_true S I (broken k) e =
 pub passes : Row → Bool
 passes (selects schema state concept objects) =
     accepts schema state
-    && eqb (concept_number (concept_answer query_steps (signature_of schema) concept)) 0
+    && eqb (returned (concept_answer query_steps (signature_of schema) concept)) 0
     && exactly (state_of state) (concept_of concept) objects
 passes (judged schema state verdict) = accepts schema state && deserves (schema_of schema) (state_of state) verdict
 

@@ -13,7 +13,7 @@ use Rattle.records.specs.ConceptRecord.{token_at}
 use Rattle.records.specs.SchemaRefusal.{AcceptedSchema}
 use Rattle.records.specs.ConceptRefusal.{AcceptedConcept}
 use Rattle.records.specs.Helpers.InRange.{TokenInRange}
-use Rattle.records.specs.declared.concept.CheckAnswer.TheVariants.{Accepted, Refused}
+use Rattle.std.specs.Prelude.{Ok, Err}
 use Rattle.records.specs.Check.{check_refusals, concept_check, CheckExact}
 use Rattle.records.specs.Marks.{allowing}
 use Rattle.records.specs.Named.{NamesClass, NamesAttribute, has_class, has_attribute, class_named, attribute_named, named_in, NamedExactly}
@@ -76,11 +76,11 @@ module _ (schema : List ℕ) (fine : AcceptedSchema schema) (limit marks : ℕ) 
 pub check_exact : (limit marks : ℕ) (schema w : List ℕ) → CheckExact limit marks schema w (concept_check limit marks schema w)
 check_exact limit marks schema w =
     record {
-      refused = outcome_refused Refused (Accepted (named_in w)) (check_refusals limit marks schema w);
+      refused = λ r e. outcome_refused Err (Ok (named_in w)) (check_refusals limit marks schema w) e;
       answered = λ z.
           let passed = first_passed (check_refusals limit marks schema w) z in (
             named_in w,
-            outcome_answered Refused (Accepted (named_in w)) (check_refusals limit marks schema w) z,
+            outcome_answered Err (Ok (named_in w)) (check_refusals limit marks schema w) z,
             named_exact schema (passed_schema schema passed.0) limit marks w (passed_concept limit (allowing marks (signature_of schema)) w passed.1.0),
           );
     }

@@ -1,12 +1,13 @@
 -- Document 01, "Turned back": the refusals of a concept, each a test named by its number, and the answer of its check: the first
--- that applies, or what an accepted concept names. The numbers are the paper's, and 0 for an accepted record.
-use Rattle.std.specs.Prelude.{ℕ, List, [], ◌∷◌, Bool, true, false, cond, not, ◌||◌, ◌≡◌, eqb, ltb}
+-- that applies, or what an accepted concept names.
+use Rattle.std.specs.Prelude.{ℕ, List, [], ◌∷◌, Bool, true, false, cond, not, ◌||◌, ◌≡◌, eqb, ltb, Result, Ok, Err}
 use Rattle.std.proofs.Math.Option.{none, some}
 use Rattle.records.specs.declared.schema.Signature.{Signature}
 use Rattle.records.specs.declared.token.Token.{Token}
 use Rattle.records.specs.declared.token.Token.TheVariants.{Class, Everything, Constant, Both, Empty, Forward, Backward, Reached, Common, Mark}
-use Rattle.records.specs.declared.concept.ConceptAnswer.{ConceptAnswer}
-use Rattle.records.specs.declared.concept.ConceptAnswer.TheVariants as concept
+use Rattle.records.specs.declared.named.Named.{Named}
+use Rattle.records.specs.declared.refusal.Refusal.{Refusal}
+use Rattle.records.specs.declared.refusal.Refusal.TheVariants as refusal
 use Rattle.records.specs.Finite.{any, count}
 use Rattle.records.specs.Layout.{concept_layout, size_at, entries, left_at, right_at, max_tokens}
 use Rattle.records.specs.ConceptRecord.{token_at, Item, Pile, pile_after}
@@ -73,21 +74,14 @@ steps w = count (entries concept_layout w) (step_at w)
 unfoldable pub refusal_6 : ℕ → List ℕ → Bool
 refusal_6 limit w = not (eqb (steps w) (size_at w 1)) || ltb limit (steps w)
 
-unfoldable pub concept_answer : ℕ → Signature → List ℕ → ConceptAnswer
+unfoldable pub concept_answer : ℕ → Signature → List ℕ → Result Named Refusal
 concept_answer limit s w =
-    cond (refusal_3 w) concept.BadShape
-    (cond (refusal_4 s w) concept.BadToken
-    (cond (refusal_5 w) concept.BadPile
-    (cond (refusal_6 limit w) concept.BadSteps
-    (concept.Accepted (named_in w)))))
-
-abbrev pub concept_number : ConceptAnswer → ℕ
-concept_number (concept.Accepted named) = 0
-concept_number concept.BadShape = 3
-concept_number concept.BadToken = 4
-concept_number concept.BadPile = 5
-concept_number concept.BadSteps = 6
+    cond (refusal_3 w) (Err refusal.ConceptShape)
+    (cond (refusal_4 s w) (Err refusal.ConceptToken)
+    (cond (refusal_5 w) (Err refusal.ConceptPile)
+    (cond (refusal_6 limit w) (Err refusal.ConceptSteps)
+    (Ok (named_in w)))))
 
 -- A record is accepted if it gets none of its refusals.
 abbrev pub AcceptedConcept : ℕ → Signature → List ℕ → Type 0
-AcceptedConcept limit s w = concept_answer limit s w ≡ concept.Accepted (named_in w)
+AcceptedConcept limit s w = concept_answer limit s w ≡ Ok (named_in w)

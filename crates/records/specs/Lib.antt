@@ -18,6 +18,7 @@ pub mod Named
 pub mod Marks
 pub mod CatalogueRecord
 -- Turned back, in checking order.
+pub mod Refusal
 pub mod Shape
 pub mod SchemaRefusal
 pub mod ConceptRefusal

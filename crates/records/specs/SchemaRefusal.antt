@@ -1,11 +1,11 @@
 -- Document 01, "Turned back": the refusals of a schema, each a test named by its number, and the answer of its check: the first
--- that applies. The numbers are the paper's, and 0 for an accepted record.
-use Rattle.std.specs.Prelude.{ℕ, List, Bool, cond, not, ◌&&◌, ◌||◌, ◌≡◌, ltb, leb}
+-- that applies, or what an accepted schema declares.
+use Rattle.std.specs.Prelude.{ℕ, List, Bool, cond, not, ◌&&◌, ◌||◌, ◌≡◌, ltb, leb, Result, Ok, Err}
 use Rattle.records.specs.declared.schema.Axiom.{Axiom}
 use Rattle.records.specs.declared.schema.Axiom.TheVariants.{Subclass, Typing, Necessary, Single, Relates}
 use Rattle.records.specs.declared.schema.Signature.{Signature}
-use Rattle.records.specs.declared.schema.SchemaAnswer.{SchemaAnswer}
-use Rattle.records.specs.declared.schema.SchemaAnswer.TheVariants as schema
+use Rattle.records.specs.declared.refusal.Refusal.{Refusal}
+use Rattle.records.specs.declared.refusal.Refusal.TheVariants as refusal
 use Rattle.records.specs.Finite.{any}
 use Rattle.records.specs.Layout.{schema_layout, entries, left_at, word_digits, max_classes, max_attributes, max_constants, max_axioms}
 use Rattle.records.specs.SchemaRecord.{signature_of, axiom_kind, schema_of}
@@ -43,19 +43,13 @@ faulty_axiom s w i = outside 1 5 (axiom_kind (left_at schema_layout w i)) || not
 unfoldable pub refusal_2 : List ℕ → Bool
 refusal_2 w = any (entries schema_layout w) (faulty_axiom (signature_of w) w)
 
-unfoldable pub schema_answer : List ℕ → SchemaAnswer
+unfoldable pub schema_answer : List ℕ → Result Signature Refusal
 schema_answer w =
-    cond (refusal_1 w) schema.BadShape
-    (cond (refusal_14 w) schema.BadLoose
-    (cond (refusal_2 w) schema.BadAxiom
-    (schema.Accepted (signature_of w))))
-
-abbrev pub schema_number : SchemaAnswer → ℕ
-schema_number (schema.Accepted s) = 0
-schema_number schema.BadShape = 1
-schema_number schema.BadLoose = 14
-schema_number schema.BadAxiom = 2
+    cond (refusal_1 w) (Err refusal.SchemaShape)
+    (cond (refusal_14 w) (Err refusal.SchemaLoose)
+    (cond (refusal_2 w) (Err refusal.SchemaAxiom)
+    (Ok (signature_of w))))
 
 -- A record is accepted if it gets none of its refusals.
 abbrev pub AcceptedSchema : List ℕ → Type 0
-AcceptedSchema w = schema_answer w ≡ schema.Accepted (signature_of w)
+AcceptedSchema w = schema_answer w ≡ Ok (signature_of w)

@@ -1,9 +1,9 @@
 -- Document 01, "Turned back": the refusals of a state, each a test named by its number, and the answer of its check: the first
--- that applies. The numbers are the paper's, and 0 for an accepted record.
-use Rattle.std.specs.Prelude.{ℕ, suc, ◌+◌, ◌-◌, List, Bool, cond, not, ◌&&◌, ◌||◌, ◌≡◌, eqb, ltb, leb}
+-- that applies, or nothing for an accepted state.
+use Rattle.std.specs.Prelude.{ℕ, suc, ◌+◌, ◌-◌, List, Bool, cond, not, ◌&&◌, ◌||◌, ◌≡◌, eqb, ltb, leb, Result, Ok, Err}
 use Rattle.records.specs.declared.schema.Signature.{Signature}
-use Rattle.records.specs.declared.state.StateAnswer.{StateAnswer}
-use Rattle.records.specs.declared.state.StateAnswer.TheVariants as state
+use Rattle.records.specs.declared.refusal.Refusal.{Refusal}
+use Rattle.records.specs.declared.refusal.Refusal.TheVariants as refusal
 use Rattle.records.specs.Finite.{any, count}
 use Rattle.records.specs.State.{repeats}
 use Rattle.records.specs.Layout.{state_layout, entries, left_at, right_at, max_objects, max_facts, attribute_kinds, constant_kinds, mark_kinds, max_marks}
@@ -77,23 +77,15 @@ mismarks s w k = allows s k && not (eqb (count (entries state_layout w) (marks_a
 unfoldable pub refusal_10 : Signature → List ℕ → Bool
 refusal_10 s w = any s.constants (misnames s w) || any max_marks (mismarks s w)
 
-unfoldable pub state_answer : Signature → List ℕ → StateAnswer
+unfoldable pub state_answer : Signature → List ℕ → Result (Unit {0}) Refusal
 state_answer s w =
-    cond (refusal_7 w) state.BadShape
-    (cond (refusal_8 s w) state.BadFact
-    (cond (refusal_9 w) state.BadOrder
-    (cond (refusal_15 w) state.BadClassFacts
-    (cond (refusal_10 s w) state.BadConstants
-    state.Accepted))))
-
-abbrev pub state_number : StateAnswer → ℕ
-state_number state.Accepted = 0
-state_number state.BadShape = 7
-state_number state.BadFact = 8
-state_number state.BadOrder = 9
-state_number state.BadClassFacts = 15
-state_number state.BadConstants = 10
+    cond (refusal_7 w) (Err refusal.StateShape)
+    (cond (refusal_8 s w) (Err refusal.StateFact)
+    (cond (refusal_9 w) (Err refusal.StateOrder)
+    (cond (refusal_15 w) (Err refusal.StateClassFacts)
+    (cond (refusal_10 s w) (Err refusal.StateNames)
+    (Ok tt)))))
 
 -- A record is accepted if it gets none of its refusals.
 abbrev pub AcceptedState : Signature → List ℕ → Type 0
-AcceptedState s w = state_answer s w ≡ state.Accepted
+AcceptedState s w = state_answer s w ≡ Ok tt

@@ -6,6 +6,7 @@ pub mod concept;
 pub mod layout;
 pub mod marks;
 pub mod named;
+pub mod refusal;
 pub mod schema;
 pub mod state;
 pub mod token;

@@ -3,7 +3,6 @@ ghost use Rattle.std.specs.Prelude.{◌≡◌, ◌<◌, ◌^◌};
 ghost use Rattle.records.specs.Helpers.Word.{IsWord, IsLayout};
 ghost use Rattle.records.specs.Layout.{entries as entries_of, schema_layout, word_digits};
 ghost use Rattle.records.specs.SchemaRecord.{signature_of, axiom_of, schema_of};
-ghost use Rattle.records.specs.SchemaRefusal.{schema_number};
 ghost use Rattle.records.specs.State.{is_loose, differ as differ_in};
 
 use crate::layout::{Layout, entries, left, right, word};
@@ -47,28 +46,6 @@ pub enum Axiom {
     Single(usize, usize),
     // attribute P, class A1, class A2
     Relates(usize, usize, usize),
-}
-
-#[derive(Clone, Copy)]
-pub enum SchemaAnswer {
-    Accepted(Signature),
-    BadShape,
-    BadLoose,
-    BadAxiom,
-}
-
-impl SchemaAnswer {
-    // The paper's number, 0 for an accepted record.
-    pub fn number(self) -> u16
-        ensures { result ≡ schema_number self }
-    {
-        match self {
-            SchemaAnswer::Accepted(_) => 0,
-            SchemaAnswer::BadShape => 1,
-            SchemaAnswer::BadLoose => 14,
-            SchemaAnswer::BadAxiom => 2,
-        }
-    }
 }
 
 pub fn schema_layout() -> Layout

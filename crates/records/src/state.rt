@@ -3,7 +3,6 @@ ghost use Rattle.std.specs.Prelude.{◌≡◌, ◌<◌, ◌^◌};
 ghost use Rattle.records.specs.Helpers.Word.{IsWord, IsLayout};
 ghost use Rattle.records.specs.Layout.{entries as entries_of, state_layout};
 ghost use Rattle.records.specs.StateRecord.{objects as objects_of, class_facts as class_facts_of, kind_at, object_at, is_class_fact};
-ghost use Rattle.records.specs.StateRefusal.{state_number};
 
 use crate::layout::{Layout, entries, left, word};
 
@@ -86,30 +85,4 @@ pub fn is_class_fact(words: &[u16], i: usize) -> bool
     ensures { result ≡ is_class_fact words.now i }
 {
     kind_at(words, i) < ATTRIBUTE_KINDS
-}
-
-#[derive(Clone, Copy)]
-pub enum StateAnswer {
-    Accepted,
-    BadShape,
-    BadFact,
-    BadOrder,
-    BadClassFacts,
-    BadConstants,
-}
-
-impl StateAnswer {
-    // The paper's number, 0 for an accepted record.
-    pub fn number(self) -> u16
-        ensures { result ≡ state_number self }
-    {
-        match self {
-            StateAnswer::Accepted => 0,
-            StateAnswer::BadShape => 7,
-            StateAnswer::BadFact => 8,
-            StateAnswer::BadOrder => 9,
-            StateAnswer::BadClassFacts => 15,
-            StateAnswer::BadConstants => 10,
-        }
-    }
 }

@@ -83,16 +83,5 @@ pub fn token_at(words: &[u16], i: usize) -> Token
 pub fn is_step(token: Token) -> bool
     ensures { result ≡ is_step token }
 {
-    match token {
-        Token::Class(_) => false,
-        Token::Everything => false,
-        Token::Constant(_) => false,
-        Token::Both => false,
-        Token::Empty => false,
-        Token::Forward(_) => true,
-        Token::Backward(_) => true,
-        Token::Reached => false,
-        Token::Common => false,
-        Token::Mark(_) => false,
-    }
+    matches!(token, Token::Forward(_) | Token::Backward(_))
 }
