@@ -90,6 +90,7 @@ pub fn differ(s: Signature, a: usize, b: usize) -> bool
     !(is_loose(s, a) | is_loose(s, b))
 }
 
+#[tactic(auto, unfolding(crate::specs::SchemaRecord::axiom_of, crate::specs::SchemaRecord::axiom_kind))]
 pub fn axiom_of(left: usize, right: usize) -> Axiom
     ensures { result ≡ axiom_of left right }
 {

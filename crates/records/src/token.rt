@@ -42,6 +42,7 @@ pub fn tokens(words: &[u16]) -> usize
     entries(concept_layout(), words)
 }
 
+#[tactic(auto, unfolding(crate::specs::ConceptRecord::token_of))]
 pub fn token_of(sort: usize, argument: usize) -> Token
     ensures { result ≡ token_of sort argument }
 {
