@@ -19,7 +19,7 @@ use Rattle.check_concept.specs.declared.scan.Scan.{Scan}
 use Rattle.records.specs.Concept.{class, everything, constant, mark, empty}
 use Rattle.records.specs.ConceptRecord.{Item, Pile, after, pile_after, token_of, token_at}
 use Rattle.records.specs.declared.schema.Signature.{Signature}
-use Rattle.records.specs.declared.concept.ConceptAnswer.TheVariants.{BadShape, BadToken}
+use Rattle.std.specs.Prelude.{Option, Some, None, Result, Ok, Err}
 use Rattle.records.specs.Finite.{any, count, set_of}
 use Rattle.records.specs.ConceptRefusal.{is_concept, suits, faulty_token, step_at, steps, refusal_3, refusal_4, refusal_5, refusal_6, concept_answer}
 use Rattle.records.specs.Layout.{concept_layout, entries, left_at, right_at, size_at, max_classes, max_attributes}
@@ -27,7 +27,7 @@ use Rattle.records.specs.Shape.{outside}
 use Rattle.records.specs.Named.{has_class, has_attribute, class_named, attribute_named, named_in}
 use Rattle.records.proofs.General.FiniteLaws.{count_turn, count_le}
 use Rattle.records.proofs.General.SetLaws.{set_none, set_gathered, set_ones}
-use Rattle.check_concept.specs.Scan.{put_sort, join_sorts, reach_sort, push_ok, push_sort, is_concept_sort, read_token, named_by, scan_answer}
+use Rattle.check_concept.specs.Scan.{put_sort, join_sorts, reach_sort, push_sort, push_pile, HasRoom, is_concept_pile, read_token, named_by, scan_answer}
 
 -- The pile's sorts.
 
@@ -40,17 +40,20 @@ abbrev bits_of : List Item → ℕ
 bits_of [] = 0
 bits_of (x ∷ s) = 2 * bits_of s + sort_bit x
 
-abbrev sorts_of : Pile → Sorts
-sorts_of none = record { ok = false; bits = 0; height = 0 }
-sorts_of (some s) = record { ok = true; bits = bits_of s; height = length s }
+abbrev sorts_in : List Item → Sorts
+sorts_in s = record { bits = bits_of s; height = length s }
 
-put_law : (s : List Item) (x : Item) → sorts_of (some (x ∷ s)) ≡ put_sort (sorts_of (some s)) (sort_bit x)
+abbrev sorts_of : Pile → Option Sorts
+sorts_of none = None
+sorts_of (some s) = Some (sorts_in s)
+
+put_law : (s : List Item) (x : Item) → Some (sorts_in (x ∷ s)) ≡ Some (put_sort (sorts_in s) (sort_bit x))
 put_law s x = rw add-one
 
-join_few : (σ : Sorts) (want b : ℕ) → σ.height < 2 → join_sorts σ want b ≡ sorts_of none
+join_few : (σ : Sorts) (want b : ℕ) → σ.height < 2 → join_sorts σ want b ≡ None
 join_few σ want b h = rw (lt-ltb _ 2 h)
 
-join_two : (x y : Item) (s : List Item) (want b : ℕ) → join_sorts (sorts_of (some (x ∷ y ∷ s))) want b ≡ cond (eqb (2 * sort_bit y + sort_bit x) want) (record { ok = true; bits = 2 * bits_of s + b; height = suc (length s) }) (sorts_of none)
+join_two : (x y : Item) (s : List Item) (want b : ℕ) → join_sorts (sorts_in (x ∷ y ∷ s)) want b ≡ cond (eqb (2 * sort_bit y + sort_bit x) want) (Some (record { bits = 2 * bits_of s + b; height = suc (length s) })) None
 join_two x y s want b = rw (le-ltb (suc (suc (length s))) 2 (omega arith), low x y, high x y, sub-one) (pick (eqb (2 * sort_bit y + sort_bit x) want) _ _)
   where
     low : (x y : Item) → (2 * (2 * bits_of s + sort_bit y) + sort_bit x) % 4 ≡ 2 * sort_bit y + sort_bit x
@@ -65,57 +68,57 @@ join_two x y s want b = rw (le-ltb (suc (suc (length s))) 2 (omega arith), low x
     high (Item.path p) (Item.concept D) = omega arith
     high (Item.path p) (Item.path q) = omega arith
 
-    pick : (t : Bool) (σ τ : Sorts) → cond (not t) τ σ ≡ cond t σ τ
+    pick : (t : Bool) (σ τ : Option Sorts) → cond (not t) τ σ ≡ cond t σ τ
     pick true σ τ = refl
     pick false σ τ = refl
 
-reach_one : (x : Item) (s : List Item) → reach_sort (sorts_of (some (x ∷ s))) ≡ cond (eqb (sort_bit x) 1) (record { ok = true; bits = 2 * bits_of s; height = suc (length s) }) (sorts_of none)
+reach_one : (x : Item) (s : List Item) → reach_sort (sorts_in (x ∷ s)) ≡ cond (eqb (sort_bit x) 1) (Some (record { bits = 2 * bits_of s; height = suc (length s) })) None
 reach_one (Item.concept C) s = rw (le-ltb (suc (length s)) 1 (omega arith), ne_eqb ((2 * bits_of s + 0) % 2) 1 (λ e. omega arith))
 reach_one (Item.path p) s =
     rw (le-ltb (suc (length s)) 1 (omega arith), eq-eqb ((2 * bits_of s + 1) % 2) 1 (omega arith))
-    (ap (λ (b : ℕ). record { ok = true; bits = b; height = suc (length s) }) (omega arith))
+    (ap (λ (b : ℕ). Some (record { bits = b; height = suc (length s) })) (omega arith))
 
 -- a token's effect on the sorts alone
-after_sorts : (t : Token) (p : Pile) → sorts_of (after t p) ≡ push_sort t (sorts_of p)
+after_sorts : (t : Token) (p : Pile) → sorts_of (after t p) ≡ push_pile t (sorts_of p)
 after_sorts t none = refl
 after_sorts (Class A) (some s) = put_law s (Item.concept (class A))
 after_sorts Everything (some s) = put_law s (Item.concept everything)
 after_sorts (Constant a) (some s) = put_law s (Item.concept (constant a))
-after_sorts Both (some []) = sym (join_few (sorts_of (some [])) 0 0 (omega arith))
-after_sorts Both (some (Item.concept C ∷ [])) = sym (join_few (sorts_of (some (Item.concept C ∷ []))) 0 0 (omega arith))
-after_sorts Both (some (Item.path p ∷ [])) = sym (join_few (sorts_of (some (Item.path p ∷ []))) 0 0 (omega arith))
+after_sorts Both (some []) = sym (join_few (sorts_in []) 0 0 (omega arith))
+after_sorts Both (some (Item.concept C ∷ [])) = sym (join_few (sorts_in (Item.concept C ∷ [])) 0 0 (omega arith))
+after_sorts Both (some (Item.path p ∷ [])) = sym (join_few (sorts_in (Item.path p ∷ [])) 0 0 (omega arith))
 after_sorts Both (some (Item.concept D ∷ Item.concept C ∷ s)) = sym (join_two (Item.concept D) (Item.concept C) s 0 0)
 after_sorts Both (some (Item.concept D ∷ Item.path p ∷ s)) = sym (join_two (Item.concept D) (Item.path p) s 0 0)
 after_sorts Both (some (Item.path q ∷ Item.concept C ∷ s)) = sym (join_two (Item.path q) (Item.concept C) s 0 0)
 after_sorts Both (some (Item.path q ∷ Item.path p ∷ s)) = sym (join_two (Item.path q) (Item.path p) s 0 0)
 after_sorts Empty (some s) = put_law s (Item.path empty)
-after_sorts (Forward P) (some []) = sym (join_few (sorts_of (some [])) 2 1 (omega arith))
-after_sorts (Forward P) (some (Item.concept C ∷ [])) = sym (join_few (sorts_of (some (Item.concept C ∷ []))) 2 1 (omega arith))
-after_sorts (Forward P) (some (Item.path p ∷ [])) = sym (join_few (sorts_of (some (Item.path p ∷ []))) 2 1 (omega arith))
+after_sorts (Forward P) (some []) = sym (join_few (sorts_in []) 2 1 (omega arith))
+after_sorts (Forward P) (some (Item.concept C ∷ [])) = sym (join_few (sorts_in (Item.concept C ∷ [])) 2 1 (omega arith))
+after_sorts (Forward P) (some (Item.path p ∷ [])) = sym (join_few (sorts_in (Item.path p ∷ [])) 2 1 (omega arith))
 after_sorts (Forward P) (some (Item.concept D ∷ Item.concept C ∷ s)) = sym (join_two (Item.concept D) (Item.concept C) s 2 1)
 after_sorts (Forward P) (some (Item.concept D ∷ Item.path p ∷ s)) = sym (join_two (Item.concept D) (Item.path p) s 2 1)
 after_sorts (Forward P) (some (Item.path q ∷ Item.concept C ∷ s)) = sym (join_two (Item.path q) (Item.concept C) s 2 1)
 after_sorts (Forward P) (some (Item.path q ∷ Item.path p ∷ s)) = sym (join_two (Item.path q) (Item.path p) s 2 1)
-after_sorts (Backward P) (some []) = sym (join_few (sorts_of (some [])) 2 1 (omega arith))
-after_sorts (Backward P) (some (Item.concept C ∷ [])) = sym (join_few (sorts_of (some (Item.concept C ∷ []))) 2 1 (omega arith))
-after_sorts (Backward P) (some (Item.path p ∷ [])) = sym (join_few (sorts_of (some (Item.path p ∷ []))) 2 1 (omega arith))
+after_sorts (Backward P) (some []) = sym (join_few (sorts_in []) 2 1 (omega arith))
+after_sorts (Backward P) (some (Item.concept C ∷ [])) = sym (join_few (sorts_in (Item.concept C ∷ [])) 2 1 (omega arith))
+after_sorts (Backward P) (some (Item.path p ∷ [])) = sym (join_few (sorts_in (Item.path p ∷ [])) 2 1 (omega arith))
 after_sorts (Backward P) (some (Item.concept D ∷ Item.concept C ∷ s)) = sym (join_two (Item.concept D) (Item.concept C) s 2 1)
 after_sorts (Backward P) (some (Item.concept D ∷ Item.path p ∷ s)) = sym (join_two (Item.concept D) (Item.path p) s 2 1)
 after_sorts (Backward P) (some (Item.path q ∷ Item.concept C ∷ s)) = sym (join_two (Item.path q) (Item.concept C) s 2 1)
 after_sorts (Backward P) (some (Item.path q ∷ Item.path p ∷ s)) = sym (join_two (Item.path q) (Item.path p) s 2 1)
-after_sorts Reached (some []) = refl
-after_sorts Reached (some (Item.concept C ∷ s)) = sym (reach_one (Item.concept C) s)
-after_sorts Reached (some (Item.path p ∷ s)) = ap (λ (b : ℕ). record { ok = true; bits = b; height = suc (length s) }) (omega arith) ∙ sym (reach_one (Item.path p) s)
-after_sorts Common (some []) = sym (join_few (sorts_of (some [])) 3 0 (omega arith))
-after_sorts Common (some (Item.concept C ∷ [])) = sym (join_few (sorts_of (some (Item.concept C ∷ []))) 3 0 (omega arith))
-after_sorts Common (some (Item.path p ∷ [])) = sym (join_few (sorts_of (some (Item.path p ∷ []))) 3 0 (omega arith))
+after_sorts Common (some []) = sym (join_few (sorts_in []) 3 0 (omega arith))
+after_sorts Common (some (Item.concept C ∷ [])) = sym (join_few (sorts_in (Item.concept C ∷ [])) 3 0 (omega arith))
+after_sorts Common (some (Item.path p ∷ [])) = sym (join_few (sorts_in (Item.path p ∷ [])) 3 0 (omega arith))
 after_sorts Common (some (Item.concept D ∷ Item.concept C ∷ s)) = sym (join_two (Item.concept D) (Item.concept C) s 3 0)
 after_sorts Common (some (Item.concept D ∷ Item.path p ∷ s)) = sym (join_two (Item.concept D) (Item.path p) s 3 0)
 after_sorts Common (some (Item.path q ∷ Item.concept C ∷ s)) = sym (join_two (Item.path q) (Item.concept C) s 3 0)
 after_sorts Common (some (Item.path q ∷ Item.path p ∷ s)) = sym (join_two (Item.path q) (Item.path p) s 3 0)
+after_sorts Reached (some []) = refl
+after_sorts Reached (some (Item.concept C ∷ s)) = sym (reach_one (Item.concept C) s)
+after_sorts Reached (some (Item.path p ∷ s)) = ap (λ (b : ℕ). Some (record { bits = b; height = suc (length s) })) (omega arith) ∙ sym (reach_one (Item.path p) s)
 after_sorts (Mark k) (some s) = put_law s (Item.concept (mark k))
 
-concept_sorts : (p : Pile) → is_concept_sort (sorts_of p) ≡ is_concept p
+concept_sorts : (p : Pile) → is_concept_pile (sorts_of p) ≡ is_concept p
 concept_sorts none = refl
 concept_sorts (some []) = refl
 concept_sorts (some (Item.concept C ∷ [])) = refl
@@ -125,36 +128,37 @@ concept_sorts (some (Item.path p ∷ x ∷ s)) = rw (ne_eqb (suc (suc (length s)
 
 -- Bounds: a token adds one item at most, and the bits are as many as the items.
 
-cond_height : (t : Bool) (σ τ : Sorts) (n : ℕ) → σ.height ≤ n → τ.height ≤ n → (cond t σ τ).height ≤ n
-cond_height true σ τ n p q = p
-cond_height false σ τ n p q = q
+-- so high at most, where there is a pile
+abbrev UpTo : ℕ → Option Sorts → Type 0
+UpTo n None = Unit {0}
+UpTo n (Some σ) = σ.height ≤ n
 
-join_height : (σ : Sorts) (want b : ℕ) → (join_sorts σ want b).height ≤ suc σ.height
-join_height σ want b =
-    cond_height (ltb σ.height 2 || not (eqb (σ.bits % 4) want)) (sorts_of none)
-    (record { ok = true; bits = 2 * (σ.bits / 4) + b; height = σ.height - 1 }) (suc σ.height) (omega arith) (omega arith)
+cond_height : (t : Bool) (σ : Sorts) (n : ℕ) → σ.height ≤ n → UpTo n (cond t None (Some σ))
+cond_height true σ n p = tt
+cond_height false σ n p = p
 
-ok_height : (t : Token) (σ : Sorts) → (push_ok t σ).height ≤ suc σ.height
-ok_height (Class A) σ = omega arith
-ok_height Everything σ = omega arith
-ok_height (Constant a) σ = omega arith
-ok_height Both σ = join_height σ 0 0
-ok_height Empty σ = omega arith
-ok_height (Forward P) σ = join_height σ 2 1
-ok_height (Backward P) σ = join_height σ 2 1
-ok_height Reached σ =
-    cond_height (ltb σ.height 1 || not (eqb (σ.bits % 2) 1)) (sorts_of none)
-    (record { ok = true; bits = σ.bits - 1; height = σ.height }) (suc σ.height) (omega arith) (omega arith)
-ok_height Common σ = join_height σ 3 0
-ok_height (Mark k) σ = omega arith
+push_height : (t : Token) (σ : Sorts) (n : ℕ) → σ.height ≤ n → UpTo (suc n) (push_sort t σ)
+push_height (Class A) σ n h = omega arith
+push_height Everything σ n h = omega arith
+push_height (Constant a) σ n h = omega arith
+push_height Both σ n h = cond_height _ _ (suc n) (omega arith)
+push_height Empty σ n h = omega arith
+push_height (Forward P) σ n h = cond_height _ _ (suc n) (omega arith)
+push_height (Backward P) σ n h = cond_height _ _ (suc n) (omega arith)
+push_height Reached σ n h = cond_height _ _ (suc n) (omega arith)
+push_height Common σ n h = cond_height _ _ (suc n) (omega arith)
+push_height (Mark k) σ n h = omega arith
 
-pile_height : (w : List ℕ) (e : ℕ) → (sorts_of (pile_after w e)).height ≤ e
+pushed_height : (t : Token) (p : Option Sorts) (n : ℕ) → UpTo n p → UpTo (suc n) (push_pile t p)
+pushed_height t None n h = tt
+pushed_height t (Some σ) n h = push_height t σ n h
+
+pile_height : (w : List ℕ) (e : ℕ) → UpTo e (sorts_of (pile_after w e))
 unfolding pile_after
 pile_height w zero = omega arith
 pile_height w (suc e) =
     rw (after_sorts (token_at w e) (pile_after w e))
-    (cond_height (sorts_of (pile_after w e)).ok (push_ok (token_at w e) (sorts_of (pile_after w e))) (sorts_of (pile_after w e)) (suc e)
-    (omega (arith, pile_height w e, ok_height (token_at w e) (sorts_of (pile_after w e)))) (omega (arith, pile_height w e)))
+    (pushed_height (token_at w e) (sorts_of (pile_after w e)) e (pile_height w e))
 
 bit_small : (x : Item) → sort_bit x < 2
 bit_small (Item.concept C) = omega arith
@@ -164,9 +168,9 @@ bits_small : (s : List Item) → bits_of s < 2 ^ length s
 bits_small [] = omega arith
 bits_small (x ∷ s) = rw pow-suc (omega (arith, bits_small s, bit_small x))
 
-pile_bits : (p : Pile) (n : ℕ) → (sorts_of p).height ≤ n → (sorts_of p).bits < 2 ^ n
-pile_bits none n h = pow_pos n
-pile_bits (some s) n h = lt_of_lt_of_le (bits_small s) (pow_mono h)
+pile_room : (p : Pile) (n : ℕ) → n < 64 → UpTo n (sorts_of p) → HasRoom (sorts_of p)
+pile_room none n l h = tt
+pile_room (some s) n l h = (lt_of_lt_of_le (bits_small s) (pow_mono {j = 63} (omega arith)), omega arith)
 
 -- A token by its two words, and whether it is faulty.
 module _ (w : List ℕ) (i : ℕ) {sort argument : ℕ} (l : sort ≡ left_at concept_layout w i) (r : argument ≡ right_at concept_layout w i) where
@@ -187,7 +191,7 @@ module _ (w : List ℕ) where
   scan_pile : (i : ℕ) → (scan_after w i).pile ≡ sorts_of (pile_after w i)
   unfolding scan_after pile_after
   scan_pile zero = refl
-  scan_pile (suc i) = ap (push_sort (token_at w i)) (scan_pile i) ∙ sym (after_sorts (token_at w i) (pile_after w i))
+  scan_pile (suc i) = ap (push_pile (token_at w i)) (scan_pile i) ∙ sym (after_sorts (token_at w i) (pile_after w i))
 
   scan_steps : (i : ℕ) → (scan_after w i).steps ≡ count i (step_at w)
   unfolding scan_after count
@@ -205,10 +209,8 @@ module _ (w : List ℕ) where
   scan_attributes (suc i) = set_gathered (λ P j. has_attribute P (token_at w j)) max_attributes i (scan_attributes i)
 
   -- there is room for one token more
-  pub scan_room : (i : ℕ) → i < 64 → ((scan_after w i).pile.bits < 2 ^ 63) × ((scan_after w i).pile.height < 64) × ((scan_after w i).steps < 64)
-  scan_room i l =
-      rw (scan_pile i, scan_steps i)
-      (pile_bits (pile_after w i) 63 (omega (arith, pile_height w i)), omega (arith, pile_height w i), omega (arith, count_le (step_at w) i))
+  pub scan_room : (i : ℕ) → i < 64 → HasRoom (scan_after w i).pile × ((scan_after w i).steps < 64)
+  scan_room i l = rw (scan_pile i, scan_steps i) (pile_room (pile_after w i) i l (pile_height w i), omega (arith, count_le (step_at w) i))
 
   scan_named : named_by (scan_after w (entries concept_layout w)) ≡ named_in w
   unfolding named_in class_named attribute_named
@@ -220,13 +222,3 @@ module _ (w : List ℕ) where
   unfolding concept_answer refusal_4 refusal_5 refusal_6 steps size_at
   scan_answer_lem limit s e q z shape tokens =
       rw (z, q, e, shape, rw e at tokens, scan_named, scan_pile (entries concept_layout w), scan_steps (entries concept_layout w), concept_sorts (pile_after w (entries concept_layout w)))
-
--- The answer, by the first test that applies.
-module _ (limit : ℕ) (s : Signature) (w : List ℕ) where
-  pub answer_3 : So (refusal_3 w) → BadShape ≡ concept_answer limit s w
-  unfolding concept_answer
-  answer_3 h = rw h
-
-  pub answer_4 : refusal_3 w ≡ false → So (refusal_4 s w) → BadToken ≡ concept_answer limit s w
-  unfolding concept_answer
-  answer_4 e h = rw (e, h)

@@ -2,7 +2,6 @@
 #![tactic(auto)]
 
 ghost use Rattle.std.specs.Prelude.{◌≡◌, not, ◌||◌};
-ghost use Rattle.records.specs.Layout.{query_steps, view_steps, query_marks, no_marks};
 ghost use Rattle.records.specs.ConceptRecord.{token_of};
 ghost use Rattle.records.specs.Marks.{allowing};
 ghost use Rattle.records.specs.Shape.{outside};
@@ -10,9 +9,11 @@ ghost use Rattle.check_concept.specs.Scan.{scan_answer};
 ghost use Rattle.records.specs.ConceptRefusal.{suits as suits_in, refusal_3, concept_answer};
 
 use crate::scan::{START, Scan};
-use records::concept::{ConceptAnswer, Plain, Query, View};
+use records::concept::Role;
 use records::layout::{misshapen, word};
 use records::marks::{allow, allows};
+use records::named::Named;
+use records::refusal::Refusal;
 use records::schema::Signature;
 use records::token::{MAX_TOKENS, Token, argument_at, concept_layout, sort_at, token_of, tokens};
 
@@ -26,15 +27,12 @@ fn suits(s: Signature, token: Token, argument: usize) -> bool
 {
     match token {
         Token::Class(a) => a < s.classes,
-        Token::Everything => argument == 0,
         Token::Constant(a) => a < s.constants,
-        Token::Both => argument == 0,
-        Token::Empty => argument == 0,
-        Token::Forward(p) => p < s.attributes,
-        Token::Backward(p) => p < s.attributes,
-        Token::Reached => argument == 0,
-        Token::Common => argument == 0,
+        Token::Forward(p) | Token::Backward(p) => p < s.attributes,
         Token::Mark(k) => allows(s, k),
+        Token::Everything | Token::Both | Token::Empty | Token::Reached | Token::Common => {
+            argument == 0
+        }
     }
 }
 
@@ -46,6 +44,7 @@ fn faulty_token(s: Signature, sort: usize, argument: usize) -> bool
 }
 
 // Refusal 3.
+#[tactic(auto, unfolding(records::specs::ConceptRefusal::refusal_3))]
 fn bad_shape(words: &[u16]) -> bool
     ensures { result ≡ refusal_3 words.now }
 {
@@ -54,24 +53,24 @@ fn bad_shape(words: &[u16]) -> bool
 }
 
 // Refusals 5 and 6, or what the concept names, from the scan of all its tokens. The record says that there are `steps` steps.
-fn answer(limit: usize, steps: usize, scan: Scan) -> ConceptAnswer
+fn answer(limit: usize, steps: usize, scan: Scan) -> Result<Named, Refusal>
     ensures { result ≡ scan_answer limit steps scan }
 {
-    let pile = scan.pile;
-    if !pile.is_concept() {
-        return ConceptAnswer::BadPile;
+    if !scan.pile.is_some_and(|sorts| sorts.is_concept()) {
+        return Err(Refusal::ConceptPile);
     }
     if (scan.steps != steps) | (limit < scan.steps) {
-        return ConceptAnswer::BadSteps;
+        return Err(Refusal::ConceptSteps);
     }
-    ConceptAnswer::Accepted(scan.named())
+    Ok(scan.named())
 }
 
-pub fn check_concept(limit: usize, s: Signature, words: &[u16]) -> ConceptAnswer
+// The tokens are read once, for refusal 4 and for what the scan keeps.
+fn check_tokens(limit: usize, s: Signature, words: &[u16]) -> Result<Named, Refusal>
     ensures { result ≡ concept_answer limit s words.now }
 {
     if bad_shape(words) {
-        return ConceptAnswer::BadShape;
+        return Err(Refusal::ConceptShape);
     }
     let n = tokens(words);
     let mut scan = START;
@@ -79,28 +78,16 @@ pub fn check_concept(limit: usize, s: Signature, words: &[u16]) -> ConceptAnswer
         let sort = sort_at(words, i);
         let argument = argument_at(words, i);
         if faulty_token(s, sort, argument) {
-            return ConceptAnswer::BadToken;
+            return Err(Refusal::ConceptToken);
         }
-        let next = scan.read(token_of(sort, argument));
-        scan = next;
+        scan = scan.read(token_of(sort, argument));
     }
     answer(limit, word(words, 1), scan)
 }
 
-pub fn check_plain(s: Signature, words: &[u16]) -> ConceptAnswer
-    ensures { result ≡ concept_answer query_steps (allowing no_marks s) words.now }
+// What a concept in this role names, or the first refusal that applies.
+pub fn check_concept<R: Role>(s: Signature, words: &[u16]) -> Result<Named, Refusal>
+    ensures { result ≡ concept_answer R.STEPS (allowing R.MARKS s) words.now }
 {
-    check_concept(Plain::STEPS, allow(s, Plain::MARKS), words)
-}
-
-pub fn check_query(s: Signature, words: &[u16]) -> ConceptAnswer
-    ensures { result ≡ concept_answer query_steps (allowing query_marks s) words.now }
-{
-    check_concept(Query::STEPS, allow(s, Query::MARKS), words)
-}
-
-pub fn check_view(s: Signature, words: &[u16]) -> ConceptAnswer
-    ensures { result ≡ concept_answer view_steps (allowing no_marks s) words.now }
-{
-    check_concept(View::STEPS, allow(s, View::MARKS), words)
+    check_tokens(R::STEPS, allow(s, R::MARKS), words)
 }

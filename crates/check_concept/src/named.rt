@@ -24,8 +24,7 @@ pub fn attribute_of(token: Token) -> u32
     ensures { result ≡ set_of max_attributes (λ P. has_attribute P token) }
 {
     match token {
-        Token::Forward(p) => only(MAX_ATTRIBUTES, p),
-        Token::Backward(p) => only(MAX_ATTRIBUTES, p),
+        Token::Forward(p) | Token::Backward(p) => only(MAX_ATTRIBUTES, p),
         _ => 0,
     }
 }

@@ -1,6 +1,6 @@
 // What the check of a concept keeps of the tokens that it has passed.
-ghost use Rattle.std.specs.Prelude.{◌≡◌, ◌<◌, ◌^◌};
-ghost use Rattle.check_concept.specs.Scan.{read_token, named_by};
+ghost use Rattle.std.specs.Prelude.{◌≡◌, ◌<◌};
+ghost use Rattle.check_concept.specs.Scan.{HasRoom, read_token, named_by};
 
 use crate::named::{attribute_of, class_of};
 use crate::sorts::{EMPTY, Sorts};
@@ -9,7 +9,8 @@ use records::token::{Token, is_step};
 
 #[derive(Clone, Copy)]
 pub struct Scan {
-    pub pile: Sorts,
+    // None once a token has taken what is not there.
+    pub pile: Option<Sorts>,
     pub steps: usize,
     // The classes and attributes named.
     pub classes: u32,
@@ -17,7 +18,7 @@ pub struct Scan {
 }
 
 pub const START: Scan = Scan {
-    pile: EMPTY,
+    pile: Some(EMPTY),
     steps: 0,
     classes: 0,
     attributes: 0,
@@ -25,17 +26,15 @@ pub const START: Scan = Scan {
 
 impl Scan {
     pub fn read(self, token: Token) -> Scan
-        requires { (self.pile.bits < 2 ^ 63) × (self.pile.height < 64) × (self.steps < 64) }
+        requires { HasRoom self.pile × (self.steps < 64) }
         ensures { result ≡ read_token token self }
     {
-        let pile = self.pile;
-        let pushed = pile.push(token);
-        let step = is_step(token) as usize;
-        let steps = self.steps + step;
+        let pile = self.pile.and_then(|sorts| sorts.push(token));
+        let steps = self.steps + usize::from(is_step(token));
         let classes = self.classes | class_of(token);
         let attributes = self.attributes | attribute_of(token);
         Scan {
-            pile: pushed,
+            pile,
             steps,
             classes,
             attributes,
@@ -46,7 +45,7 @@ impl Scan {
     pub fn named(self) -> Named
         ensures { result ≡ named_by self }
     {
-        let count = u32::count_ones(self.classes) as u64;
+        let count = u64::from(self.classes.count_ones());
         Named {
             classes: self.classes,
             attributes: self.attributes,

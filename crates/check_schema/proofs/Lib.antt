@@ -1,2 +1,1 @@
--- Laws that several proofs here share.
-mod AnswerLaws
+

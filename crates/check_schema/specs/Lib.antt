@@ -1,2 +1,1 @@
--- What only contracts of helper functions cite.
-pub mod Scan
+

@@ -2,15 +2,15 @@
 #![tactic(auto)]
 
 ghost use Rattle.std.specs.Prelude.{◌≡◌, ◌<◌, ◌≤◌, ◌^◌};
-ghost use Rattle.check_schema.specs.Scan.{content_answer};
 ghost use Rattle.records.specs.Layout.{max_constants};
 ghost use Rattle.records.specs.SchemaRecord.{signature_of};
 ghost use Rattle.records.specs.SchemaRefusal.{oversized as oversized_in, declares as declares_in, faulty_axiom, refusal_1, refusal_14, refusal_2, schema_answer};
 
 use records::layout::{left, misshapen};
+use records::refusal::Refusal;
 use records::schema::{
-    Axiom, BYTE_PART, MAX_ATTRIBUTES, MAX_AXIOMS, MAX_CLASSES, MAX_CONSTANTS, SchemaAnswer,
-    Signature, axiom_at, axioms, schema_layout, signature_of,
+    Axiom, BYTE_PART, MAX_ATTRIBUTES, MAX_AXIOMS, MAX_CLASSES, MAX_CONSTANTS, Signature, axiom_at,
+    axioms, schema_layout, signature_of,
 };
 
 fn declares(s: Signature, a: Axiom) -> bool
@@ -19,13 +19,16 @@ fn declares(s: Signature, a: Axiom) -> bool
     match a {
         Axiom::Subclass(a, b) => (a < s.classes) & (b < s.classes),
         Axiom::Typing(a, p, b) => (a < s.classes) & (p < s.attributes) & (b < s.classes),
-        Axiom::Necessary(a, p) => (a < s.classes) & (p < s.attributes),
-        Axiom::Single(a, p) => (a < s.classes) & (p < s.attributes),
+        Axiom::Necessary(a, p) | Axiom::Single(a, p) => (a < s.classes) & (p < s.attributes),
         Axiom::Relates(p, a, b) => (p < s.attributes) & (a < s.classes) & (b < s.classes),
     }
 }
 
 // Refusal 2 at axiom `i`.
+#[tactic(auto, unfolding(
+    records::specs::SchemaRefusal::faulty_axiom,
+    records::specs::SchemaRecord::axiom_kind
+))]
 fn faulty_axiom(s: Signature, words: &[u16], i: usize) -> bool
     requires { i < 2 ^ 16 }
     ensures { result ≡ faulty_axiom s words.now i }
@@ -45,6 +48,7 @@ fn oversized(s: Signature, axioms: usize) -> bool
 }
 
 // Refusal 1.
+#[tactic(auto, unfolding(records::specs::SchemaRefusal::refusal_1))]
 fn bad_shape(words: &[u16]) -> bool
     ensures { result ≡ refusal_1 words.now }
 {
@@ -66,33 +70,22 @@ fn bad_axiom(words: &[u16]) -> bool
     ensures { result ≡ refusal_2 words.now }
 {
     let s = signature_of(words);
-    let n = axioms(words);
-    for i in 0..n {
-        if faulty_axiom(s, words, i) {
-            return true;
-        }
-    }
-    false
+    (0..axioms(words)).any(|i| faulty_axiom(s, words, i))
 }
 
-// Refusal 14, then 2, or what the schema declares.
-fn answer(s: Signature, undeclared: bool, faulty: bool) -> SchemaAnswer
-    ensures { result ≡ content_answer s undeclared faulty }
-{
-    if undeclared {
-        return SchemaAnswer::BadLoose;
-    }
-    if faulty {
-        return SchemaAnswer::BadAxiom;
-    }
-    SchemaAnswer::Accepted(s)
-}
-
-pub fn check_schema(words: &[u16]) -> SchemaAnswer
+// What the schema declares, or the first refusal that applies.
+#[tactic(auto, unfolding(records::specs::SchemaRefusal::schema_answer))]
+pub fn check_schema(words: &[u16]) -> Result<Signature, Refusal>
     ensures { result ≡ schema_answer words.now }
 {
     if bad_shape(words) {
-        return SchemaAnswer::BadShape;
+        return Err(Refusal::SchemaShape);
     }
-    answer(signature_of(words), bad_loose(words), bad_axiom(words))
+    if bad_loose(words) {
+        return Err(Refusal::SchemaLoose);
+    }
+    if bad_axiom(words) {
+        return Err(Refusal::SchemaAxiom);
+    }
+    Ok(signature_of(words))
 }

@@ -74,6 +74,12 @@ module _ {A : Type 0} (refused : Refusal → A) (answer : A) where
       pick None e = rw e (a (first_passed refusals e))
       pick (Some x) e = rw e (r x)
 
+-- the last check of a call, by its answer
+pub last_answer : {A : Type 0} (a : Result A Refusal) (x : A) → ((y : A) → a ≡ Ok y → y ≡ x) → a ≡ outcome Err (refusal_in a ∷ []) (Ok x)
+unfolding outcome first_refusal
+last_answer (Ok y) x h = ap Ok (h y refl)
+last_answer (Err r) x h = refl
+
 -- Nothing is refused just where the record is accepted.
 
 -- an answer that is no refusal
