@@ -1,16 +1,16 @@
 -- What the check of a concept keeps while it scans the tokens is what refusals 4 to 6 ask, and what is named: the sorts of the
 -- pile's items as bits, the count of steps, and the sets.
-use Prim.Native.Nat.{ℕ, zero, suc, ◌+◌, ◌-◌, ◌*◌, ◌/◌, ◌%◌, ◌^◌, ◌≤◌, ◌<◌}
-use mathlib.Core.Bool.{Bool, So, true, false, cond, not, ◌||◌}
+use Prim.Native.Nat.{ℕ, zero, suc, ◌+◌, ◌*◌, ◌/◌, ◌%◌, ◌^◌, ◌≤◌, ◌<◌}
+use mathlib.Core.Bool.{Bool, true, false, cond, not, ◌||◌}
 use mathlib.Core.List.{List, [], ◌∷◌}
 use mathlib.Core.Option.{none, some}
 use mathlib.Core.Path.{◌≡◌, refl, ap, sym, ◌∙◌}
 use native.Mathlib.Nat.{pow-suc, lt_of_lt_of_le}
-use lib.Pow.{pow_pos, pow_mono}
+use lib.Pow.{pow_mono}
 use native.Mathlib.Numerals.{add-one, sub-one}
 use native.Mathlib.Omega.{arith}
 use borrow.Author.Tests.{lt-ltb, le-ltb, eq-eqb, ne_eqb}
-use lib.Dec.{eqb, ltb}
+use lib.Dec.{eqb}
 use lib.ListN.{length, get_or}
 use Rattle.records.specs.declared.token.Token.{Token}
 use Rattle.records.specs.declared.token.Token.TheVariants.{Class, Everything, Constant, Both, Empty, Forward, Backward, Reached, Common, Mark}
@@ -19,7 +19,7 @@ use Rattle.check_concept.specs.declared.scan.Scan.{Scan}
 use Rattle.records.specs.Concept.{class, everything, constant, mark, empty}
 use Rattle.records.specs.ConceptRecord.{Item, Pile, after, pile_after, token_of, token_at}
 use Rattle.records.specs.declared.schema.Signature.{Signature}
-use Rattle.std.specs.Prelude.{Option, Some, None, Result, Ok, Err}
+use Rattle.std.specs.Prelude.{Option, Some, None}
 use Rattle.records.specs.Finite.{any, count, set_of}
 use Rattle.records.specs.ConceptRefusal.{is_concept, suits, faulty_token, step_at, steps, refusal_3, refusal_4, refusal_5, refusal_6, concept_answer}
 use Rattle.records.specs.Layout.{concept_layout, entries, left_at, right_at, size_at, max_classes, max_attributes}

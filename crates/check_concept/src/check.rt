@@ -8,10 +8,7 @@ use records::concept::Role;
 use records::named::Named;
 use records::refusal::Refusal;
 
-#[tactic(auto, unfolding(
-    records::specs::Outcome::outcome,
-    records::specs::Outcome::first_refusal
-))]
+#[tactic(auto, unfolding(records::specs::Outcome::outcome, records::specs::Outcome::first_refusal))]
 pub fn check<R: Role>(schema: &[u16], concept: &[u16]) -> Result<Named, Refusal>
     ensures { result ≡ concept_check R.STEPS R.MARKS schema.now concept.now }
 {

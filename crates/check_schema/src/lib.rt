@@ -25,10 +25,7 @@ fn declares(s: Signature, a: Axiom) -> bool
 }
 
 // Refusal 2 at axiom `i`.
-#[tactic(auto, unfolding(
-    records::specs::SchemaRefusal::faulty_axiom,
-    records::specs::SchemaRecord::axiom_kind
-))]
+#[tactic(auto, unfolding(records::specs::SchemaRefusal::faulty_axiom, records::specs::SchemaRecord::axiom_kind))]
 fn faulty_axiom(s: Signature, words: &[u16], i: usize) -> bool
     requires { i < 2 ^ 16 }
     ensures { result ≡ faulty_axiom s words.now i }

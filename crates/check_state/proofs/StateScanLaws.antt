@@ -15,12 +15,11 @@ use lib.Dec.{eqb, ltb, leb}
 use lib.ListN.{length, get_or, set, length-set, replicate, get_or-replicate, get_or-eq_default}
 use lib.Seq.{get_or-set_same, get_or-set_other}
 use Rattle.records.specs.declared.schema.Signature.{Signature}
-use Rattle.records.specs.declared.state.StateAnswer.TheVariants.{BadShape, BadFact, BadOrder}
 use Rattle.records.specs.Finite.{any, all, count}
 use Rattle.records.specs.Layout.{state_layout, entries, constant_kinds, fact_kinds, max_constants, max_marks}
 use Rattle.records.specs.StateRecord.{class_facts, is_class_fact, kind_at, object_at, state_of}
-use Rattle.records.specs.StateRefusal.{ascends, descends, faulty_fact, names_at, misnames, marks_at, mismarks, refusal_7, refusal_8, refusal_9, refusal_15, refusal_10, state_answer}
-use Rattle.check_state.specs.Scan.{sorted_answer, last_passes, follows_at, slots, slot_of, named_in, misnamed_at, misnamed, mismarked_at, mismarked}
+use Rattle.records.specs.StateRefusal.{ascends, descends, faulty_fact, names_at, misnames, marks_at, mismarks, refusal_8, refusal_9, refusal_15, refusal_10}
+use Rattle.check_state.specs.Scan.{last_passes, follows_at, slots, slot_of, named_in, misnamed_at, misnamed, mismarked_at, mismarked}
 use Rattle.records.specs.Marks.{allows}
 use Rattle.records.specs.State.{clashing, repeats}
 use Rattle.records.proofs.General.BoolLaws.{or_false_left, or_left, or_right, or_true_cases, and_left, and_both, not_both}
@@ -250,21 +249,3 @@ module _ (s : Signature) (w : List ℕ) where
     unfolding mismarked refusal_10
     kept_10 =
         rw (misnamed_is, any_same (mismarked_at s counts) (mismarks s w) max_marks (λ k l h. mismarks_is k l))
-
--- The answer, by the first test that applies.
-module _ (s : Signature) (w : List ℕ) where
-  pub answer_7 : So (refusal_7 w) → BadShape ≡ state_answer s w
-  unfolding state_answer
-  answer_7 h = rw h
-
-  pub answer_8 : refusal_7 w ≡ false → So (refusal_8 s w) → BadFact ≡ state_answer s w
-  unfolding state_answer
-  answer_8 e h = rw (e, h)
-
-  pub answer_9 : refusal_7 w ≡ false → refusal_8 s w ≡ false → So (refusal_9 w) → BadOrder ≡ state_answer s w
-  unfolding state_answer
-  answer_9 e f h = rw (e, f, h)
-
-  pub answer_past_9 : refusal_7 w ≡ false → refusal_8 s w ≡ false → refusal_9 w ≡ false → sorted_answer (refusal_15 w) (refusal_10 s w) ≡ state_answer s w
-  unfolding state_answer
-  answer_past_9 e f g = rw (e, f, g)

@@ -2,8 +2,6 @@
 -- objects. StateScanLaws of proofs/ ties them to the refusals.
 use Rattle.std.specs.Prelude.{ℕ, zero, suc, ◌+◌, ◌-◌, List, Bool, true, cond, not, ◌&&◌, ◌||◌, eqb, ltb, leb, get_or}
 use Rattle.records.specs.declared.schema.Signature.{Signature}
-use Rattle.records.specs.declared.state.StateAnswer.{StateAnswer}
-use Rattle.records.specs.declared.state.StateAnswer.TheVariants as state
 use Rattle.records.specs.Finite.{any}
 use Rattle.records.specs.State.{repeats}
 use Rattle.records.specs.Layout.{max_constants, max_marks, constant_kinds, fact_kinds}
@@ -18,10 +16,6 @@ last_passes f (suc i) = f i
 -- fact i is the first, or stands after the one before it
 abbrev pub follows_at : List ℕ → ℕ → Bool
 follows_at w i = last_passes (ascends w) i
-
--- refusal 15, then 10, of a state whose facts ascend, by the two tests
-abbrev pub sorted_answer : Bool → Bool → StateAnswer
-sorted_answer miscounted misnamed = cond miscounted state.BadClassFacts (cond misnamed state.BadConstants state.Accepted)
 
 -- the slots of constants and marks, the marks after the constants; one more is of all other facts
 abbrev pub slots : ℕ

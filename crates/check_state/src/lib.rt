@@ -4,15 +4,16 @@
 ghost use Rattle.std.specs.Prelude.{◌||◌, false, ◌≡◌, suc, ◌<◌, ◌^◌, length};
 ghost use Rattle.records.specs.StateRecord.{is_class_fact};
 ghost use Rattle.records.specs.StateRefusal.{refusal_7, refusal_9, refusal_15, declares_kind, suits_kind, faulty_fact, ascends as ascends_at, state_answer};
-ghost use Rattle.check_state.specs.Scan.{last_passes, follows_at, sorted_answer, slots, slot_of, named_in, misnamed as misnamed_in, mismarked as mismarked_in};
+ghost use Rattle.check_state.specs.Scan.{last_passes, follows_at, slots, slot_of, named_in, misnamed as misnamed_in, mismarked as mismarked_in};
 ghost use Rattle.records.specs.State.{repeats as repeats_in};
 
 use records::layout::{left, misshapen, right};
 use records::marks::{MAX_MARKS, allows};
+use records::refusal::Refusal;
 use records::schema::{Signature, differ};
 use records::state::{
-    ATTRIBUTE_KINDS, CONSTANT_KINDS, FACT_KINDS, MARK_KINDS, MAX_FACTS, MAX_OBJECTS, StateAnswer,
-    class_facts, facts, is_class_fact, kind_at, object_at, objects, state_layout,
+    ATTRIBUTE_KINDS, CONSTANT_KINDS, FACT_KINDS, MARK_KINDS, MAX_FACTS, MAX_OBJECTS, class_facts,
+    facts, is_class_fact, kind_at, object_at, objects, state_layout,
 };
 
 // A place for each constant and mark to which a fact can give its object, and one more for all other facts.
@@ -44,6 +45,7 @@ fn suits_kind(n: usize, kind: usize, right: usize) -> bool
 }
 
 // Refusal 8 at fact `i`.
+#[tactic(auto, unfolding(records::specs::StateRefusal::faulty_fact))]
 fn faulty_fact(s: Signature, words: &[u16], i: usize) -> bool
     requires { i < 2 ^ 16 }
     ensures { result ≡ faulty_fact s words.now i }
@@ -72,7 +74,7 @@ fn follows(words: &[u16], i: usize) -> bool
     requires { i < 2 ^ 16 }
     ensures { result ≡ follows_at words.now i }
 {
-    if i == 0 { true } else { ascends(words, i - 1) }
+    i == 0 || ascends(words, i - 1)
 }
 
 // No fact stands before place `i`, or the last of them is of a class.
@@ -80,11 +82,7 @@ fn class_up_to(words: &[u16], i: usize) -> bool
     requires { i < 2 ^ 16 }
     ensures { result ≡ last_passes (is_class_fact words.now) i }
 {
-    if i == 0 {
-        true
-    } else {
-        is_class_fact(words, i - 1)
-    }
+    i == 0 || is_class_fact(words, i - 1)
 }
 
 // Refusal 15. Facts that ascend begin with those of classes, so the two at the end of the count tell whether it is right.
@@ -113,12 +111,7 @@ fn repeats(s: Signature, named: &[usize; SLOTS], a: usize) -> bool
     requires { (a < suc slots) × (length named.now ≡ suc slots) }
     ensures { result ≡ repeats_in s (named_in named.now) a }
 {
-    for b in 0..a {
-        if differ(s, a, b) & (named[b] == named[a]) {
-            return true;
-        }
-    }
-    false
+    (0..a).any(|b| differ(s, a, b) & (named[b] == named[a]))
 }
 
 // Refusal 10 of the constants, from how many facts name each and the object of the last of them.
@@ -129,12 +122,7 @@ fn misnamed(s: Signature, counts: &[usize; SLOTS], named: &[usize; SLOTS]) -> bo
     if FACT_KINDS - CONSTANT_KINDS < s.constants {
         return true;
     }
-    for a in 0..s.constants {
-        if (counts[a] != 1) | repeats(s, named, a) {
-            return true;
-        }
-    }
-    false
+    (0..s.constants).any(|a| (counts[a] != 1) | repeats(s, named, a))
 }
 
 // Refusal 10 of the marks, from how many facts give each its object.
@@ -142,12 +130,7 @@ fn mismarked(s: Signature, counts: &[usize; SLOTS]) -> bool
     requires { length counts.now ≡ suc slots }
     ensures { result ≡ mismarked_in s counts.now }
 {
-    for k in 0..MAX_MARKS {
-        if allows(s, k) & (counts[MARK_KINDS - CONSTANT_KINDS + k] != 1) {
-            return true;
-        }
-    }
-    false
+    (0..MAX_MARKS).any(|k| allows(s, k) & (counts[MARK_KINDS - CONSTANT_KINDS + k] != 1))
 }
 
 // Refusal 10.
@@ -159,6 +142,7 @@ fn bad_names(s: Signature, counts: &[usize; SLOTS], named: &[usize; SLOTS]) -> b
 }
 
 // Refusal 7.
+#[tactic(auto, unfolding(records::specs::StateRefusal::refusal_7))]
 fn bad_shape(words: &[u16]) -> bool
     ensures { result ≡ refusal_7 words.now }
 {
@@ -166,24 +150,12 @@ fn bad_shape(words: &[u16]) -> bool
     (MAX_OBJECTS < objects(words)) | (MAX_FACTS < n) | misshapen(state_layout(), words)
 }
 
-// Refusal 15, then 10, or accepted.
-fn answer(miscounted: bool, misnamed: bool) -> StateAnswer
-    ensures { result ≡ sorted_answer miscounted misnamed }
-{
-    if miscounted {
-        return StateAnswer::BadClassFacts;
-    }
-    if misnamed {
-        return StateAnswer::BadConstants;
-    }
-    StateAnswer::Accepted
-}
-
-pub fn check_state(s: Signature, words: &[u16]) -> StateAnswer
+// The first refusal that applies, or nothing.
+pub fn check_state(s: Signature, words: &[u16]) -> Result<(), Refusal>
     ensures { result ≡ state_answer s words.now }
 {
     if bad_shape(words) {
-        return StateAnswer::BadShape;
+        return Err(Refusal::StateShape);
     }
     let n = facts(words);
     let mut ascending = true;
@@ -191,16 +163,21 @@ pub fn check_state(s: Signature, words: &[u16]) -> StateAnswer
     let mut named = [0usize; SLOTS];
     for i in 0..n {
         if faulty_fact(s, words, i) {
-            return StateAnswer::BadFact;
+            return Err(Refusal::StateFact);
         }
-        let next = ascending & follows(words, i);
-        ascending = next;
+        ascending = ascending & follows(words, i);
         let at = slot(kind_at(words, i));
-        counts[at] = counts[at] + 1;
+        counts[at] += 1;
         named[at] = object_at(words, i);
     }
     if !ascending {
-        return StateAnswer::BadOrder;
+        return Err(Refusal::StateOrder);
     }
-    answer(bad_class_facts(words), bad_names(s, &counts, &named))
+    if bad_class_facts(words) {
+        return Err(Refusal::StateClassFacts);
+    }
+    if bad_names(s, &counts, &named) {
+        return Err(Refusal::StateNames);
+    }
+    Ok(())
 }

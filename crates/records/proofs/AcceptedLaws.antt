@@ -13,7 +13,7 @@ use Rattle.records.specs.declared.token.Token.{Token}
 use Rattle.records.specs.declared.token.Token.TheVariants.{Class, Everything, Constant, Both, Empty, Forward, Backward, Reached, Common, Mark}
 use Rattle.records.specs.declared.refusal.Refusal.{Refusal}
 use Rattle.records.specs.declared.refusal.Refusal.TheVariants as refusal
-use Rattle.std.specs.Prelude.{Option, None, Result, Ok, Err}
+use Rattle.std.specs.Prelude.{None, Result, Err}
 use Rattle.std.proofs.lemmas.Option.{none-some}
 use Rattle.records.specs.Refusal.{refusal_in}
 use Rattle.records.specs.Finite.{any, count}

@@ -2,14 +2,14 @@
 use Prim.Native.Nat.{ℕ, zero, suc, ◌+◌, ◌≤◌, ◌<◌}
 use mathlib.Core.List.{List, [], ◌∷◌, ◌++◌, append_assoc}
 use mathlib.Core.Bool.{Bool, true, false, So, cond, not}
-use mathlib.Core.Path.{◌≡◌, refl, sym, ap, ◌∙◌}
+use mathlib.Core.Path.{◌≡◌, refl, sym, ap}
 use native.Mathlib.Decide.{ℕ_discrete}
 use native.Mathlib.Numerals.{add-one}
 use native.Mathlib.Omega.{arith}
 use borrow.Author.Tests.{eqb-true, ltb-false, not-false}
 use lib.Dec.{eqb, ltb}
 use lib.ListN.{length}
-use Rattle.std.specs.Prelude.{Option, Some, None, Result, Ok, Err}
+use Rattle.std.specs.Prelude.{Option, Some, None, Ok, Err}
 use Rattle.std.proofs.lemmas.Option.{none-some}
 use Rattle.records.specs.declared.schema.Signature.{Signature}
 use Rattle.records.specs.declared.refusal.Refusal.{Refusal}
@@ -20,12 +20,11 @@ use Rattle.records.specs.Marks.{allowing}
 use Rattle.records.specs.Refusal.{refusal_in}
 use Rattle.records.specs.ConceptRefusal.{concept_answer, AcceptedConcept}
 use Rattle.records.specs.CatalogueRecord.{views, length_at, start_at, view_at}
-use Rattle.records.specs.Outcome.{outcome}
 use Rattle.records.specs.CatalogueRefusal.{refusal_13, layout_refusal, view_refusals, catalogue_answer, AcceptedCatalogue}
 use Rattle.records.specs.Shape.{outside}
 use Rattle.records.proofs.General.BoolLaws.{or_false}
 use Rattle.records.proofs.General.SumLaws.{sum_turn}
-use Rattle.records.proofs.OutcomeLaws.{Passed, first_at, first_none, first_passed, outcome_refused, outcome_answered, outcome_is, passed_concept}
+use Rattle.records.proofs.OutcomeLaws.{Passed, first_at, first_none, outcome_refused, outcome_answered, outcome_is, passed_concept}
 
 module _ (w : List ℕ) where
   pub start_first : start_at w 0 ≡ 1 + views w

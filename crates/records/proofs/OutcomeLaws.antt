@@ -2,22 +2,20 @@
 use Prim.Native.Nat.{ℕ, ◌≤◌, ◌<◌}
 use mathlib.Core.List.{List, [], ◌∷◌, ◌++◌}
 use mathlib.Core.Bool.{Bool, false, true, cond}
-use mathlib.Core.Path.{◌≡◌, refl, sym, ap, ◌∙◌}
+use mathlib.Core.Path.{◌≡◌, refl, sym, ap}
 use lib.ListN.{length}
-use borrow.Author.Tests.{lt-ltb, le-ltb, ltb-false, leb-false}
+use borrow.Author.Tests.{le-ltb, ltb-false, leb-false}
 use Rattle.std.specs.Prelude.{Option, Some, None, Result, Ok, Err}
 use Rattle.std.proofs.lemmas.Option.{none-some}
 use Rattle.records.specs.declared.schema.Signature.{Signature}
 use Rattle.records.specs.declared.refusal.Refusal.{Refusal}
 use Rattle.records.specs.declared.named.Named.{Named}
-use Rattle.records.specs.Layout.{query_steps, view_steps, no_marks}
 use Rattle.records.specs.Refusal.{refusal_in}
 use Rattle.records.specs.SchemaRefusal.{schema_answer, AcceptedSchema}
 use Rattle.records.specs.Named.{named_in}
 use Rattle.records.specs.ConceptRefusal.{concept_answer, AcceptedConcept}
 use Rattle.records.specs.StateRefusal.{state_answer, AcceptedState}
-use Rattle.records.specs.Marks.{allowing, used_marks}
-use Rattle.records.specs.Outcome.{refusal_11, refusal_12, schema_refusal, query_refusal, view_refusal, state_refusal, lent_refusal, attribute_refusal, first_refusal, outcome, plain_refusal, query_signature, choice_signature, choice_refusal}
+use Rattle.records.specs.Outcome.{refusal_11, refusal_12, schema_refusal, lent_refusal, attribute_refusal, first_refusal, outcome}
 use Rattle.records.specs.SchemaRecord.{signature_of}
 use Rattle.records.proofs.AcceptedLaws.{faultless_schema, faultless_concept, faultless_state}
 

@@ -10,7 +10,7 @@ use Rattle.records.specs.Marks.{allowing}
 use Rattle.records.specs.CatalogueRecord.{views, start_at, view_at}
 use Rattle.records.specs.Refusal.{refusal_in}
 use Rattle.records.specs.Shape.{outside}
-use Rattle.records.specs.Outcome.{schema_refusal, first_refusal, outcome}
+use Rattle.records.specs.Outcome.{schema_refusal, outcome}
 
 -- 13. There is no view or more than 16, or the length is another than the count and the length words make. (Words that end before
 -- the last length word are fewer than that.)

@@ -1,10 +1,10 @@
 -- The loop keeps the scan of the tokens passed (scan_after of ConceptScanLaws), none of them faulty.
-use mathlib.Core.Path.{◌≡◌, refl, sym, ◌∙◌}
+use mathlib.Core.Path.{refl, sym, ◌∙◌}
 use native.Mathlib.Nat.{le_antisymm}
 use native.Mathlib.Numerals.{add-one}
 use native.Mathlib.Omega.{arith}
 use Rattle.std.proofs.lemmas.Grind.{common_steps}
-use Rattle.records.specs.ConceptRefusal.{faulty_token, refusal_4, concept_answer}
+use Rattle.records.specs.ConceptRefusal.{refusal_4, concept_answer}
 use Rattle.records.proofs.General.FiniteLaws.{any_zero, any_of_lem, any_still}
 use Rattle.records.proofs.AcceptedLaws.{tokens_few}
 use Rattle.check_concept.proofs.ConceptScanLaws.{token_of_lem, fault_of, scan_after, scan_room, scan_answer_lem}

@@ -1,26 +1,29 @@
 -- The scan keeps the faults, the order and the names of the facts passed (Kept of StateScanLaws).
-use Rattle.std.proofs.lemmas.Bool.{not_from_true, not_from_false}
+use Rattle.std.proofs.lemmas.Bool.{not_from_true}
 use Rattle.records.proofs.General.FiniteLaws.{any_of_lem}
-use Rattle.check_state.proofs.StateScanLaws.{answer_7, answer_8, answer_9, answer_past_9}
 use Rattle.check_state.proofs.StateScanLaws.{kept_10, kept_8, kept_9, kept_all, kept_more, kept_none}
-use Rattle.records.specs.StateRefusal.{refusal_8}
-use Rattle.check_state.specs.Scan.{sorted_answer}
-use mathlib.Core.Path.{◌∙◌, ap₂, sym}
+use Rattle.records.specs.StateRefusal.{refusal_8, state_answer}
+use Rattle.std.proofs.lemmas.Grind.{common_steps}
+use mathlib.Core.Path.{◌∙◌, sym}
 use native.Mathlib.Omega.{arith}
 use Rattle.check_state.proofs.check_state.Goals as goal
 
 pub returns-then-bad_shape : goal.returns-then-bad_shape
-returns-then-bad_shape c = answer_7 _ _ (sym c.bad_shape.ensures ∙ c.if-bad_shape.true)
+unfolding state_answer
+returns-then-bad_shape c = grind (arith, common_steps)
 
 pub loop-i-init : goal.loop-i-init
 loop-i-init c = (omega arith, kept_none _ _)
 
 pub returns-then-faulty_fact : goal.returns-then-faulty_fact
-unfolding refusal_8
+unfolding state_answer refusal_8
 returns-then-faulty_fact c =
-    answer_8 _ _ (sym c.bad_shape.ensures ∙ c.if-bad_shape.false)
-    (rw (← c.facts-n.ensures.value)
-    (any_of_lem _ _ _ c.loop-i-test.true (sym c.faulty_fact.ensures ∙ c.if-faulty_fact.true)))
+    rw (
+      ← c.bad_shape.ensures,
+      c.if-bad_shape.false,
+      ← c.facts-n.ensures.value,
+      any_of_lem _ _ _ c.loop-i-test.true (sym c.faulty_fact.ensures ∙ c.if-faulty_fact.true),
+    )
 
 pub bounds-counts-at : goal.bounds-counts-at
 bounds-counts-at c = c.slot-at.ensures.1
@@ -37,15 +40,16 @@ bounds-named-at c = c.slot-at.ensures.1
 pub loop-i-preserved : goal.loop-i-preserved
 loop-i-preserved c = (
   omega arith,
-  rw (c.follows.ensures, c.object_at.ensures)
+  rw (c.follows-ascending.ensures, c.object_at.ensures)
       (kept_more _ _ c.loop-i.invariant.1 (sym c.faulty_fact.ensures ∙ c.if-faulty_fact.false) c.slot-at.result
       (rw (← c.kind_at.ensures) c.slot-at.ensures.0) c.slot-at.ensures.1),
 )
 
 pub returns-then-not-ascending : goal.returns-then-not-ascending
+unfolding state_answer
 returns-then-not-ascending c =
     let z = kept_all _ _ c.loop-i.invariant.1 c.loop-i.invariant.0 c.loop-i-test.false c.facts-n.ensures.value in
-    answer_9 _ _ (sym c.bad_shape.ensures ∙ c.if-bad_shape.false) (kept_8 _ _ z) (kept_9 _ _ z ∙ (not_from_false _ c.if-not-ascending.true))
+    rw (← c.bad_shape.ensures, c.if-bad_shape.false, kept_8 _ _ z, kept_9 _ _ z, c.if-not-ascending.true)
 
 pub bad_class_facts-requires : goal.bad_class_facts-requires
 bad_class_facts-requires c =
@@ -55,9 +59,20 @@ bad_class_facts-requires c =
 pub bad_names-requires : goal.bad_names-requires
 bad_names-requires c = (c.loop-i.invariant.1.counters, c.loop-i.invariant.1.places)
 
+pub returns-then-bad_class_facts : goal.returns-then-bad_class_facts
+unfolding state_answer
+returns-then-bad_class_facts c =
+    let z = kept_all _ _ c.loop-i.invariant.1 c.loop-i.invariant.0 c.loop-i-test.false c.facts-n.ensures.value in
+    rw (← c.bad_shape.ensures, c.if-bad_shape.false, kept_8 _ _ z, kept_9 _ _ z, c.if-not-ascending.false, ← c.bad_class_facts.ensures, c.if-bad_class_facts.true)
+
+pub returns-then-bad_names : goal.returns-then-bad_names
+unfolding state_answer
+returns-then-bad_names c =
+    let z = kept_all _ _ c.loop-i.invariant.1 c.loop-i.invariant.0 c.loop-i-test.false c.facts-n.ensures.value in
+    rw (← c.bad_shape.ensures, c.if-bad_shape.false, kept_8 _ _ z, kept_9 _ _ z, c.if-not-ascending.false, ← c.bad_class_facts.ensures, c.if-bad_class_facts.false, ← kept_10 _ _ z, ← c.bad_names.ensures, c.if-bad_names.true)
+
 pub returns : goal.returns
+unfolding state_answer
 returns c =
     let z = kept_all _ _ c.loop-i.invariant.1 c.loop-i.invariant.0 c.loop-i-test.false c.facts-n.ensures.value in
-    c.answer.ensures
-    ∙ ap₂ sorted_answer c.bad_class_facts.ensures (c.bad_names.ensures ∙ kept_10 _ _ z)
-    ∙ answer_past_9 _ _ (sym c.bad_shape.ensures ∙ c.if-bad_shape.false) (kept_8 _ _ z) (kept_9 _ _ z ∙ (not_from_true _ c.if-not-ascending.false))
+    rw (← c.bad_shape.ensures, c.if-bad_shape.false, kept_8 _ _ z, kept_9 _ _ z, c.if-not-ascending.false, ← c.bad_class_facts.ensures, c.if-bad_class_facts.false, ← kept_10 _ _ z, ← c.bad_names.ensures, c.if-bad_names.false)

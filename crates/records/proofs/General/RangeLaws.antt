@@ -1,15 +1,14 @@
 -- Chains over a range of numbers, and over a slice by its places, in this repository's own words: what `any`, `all`, `find`,
 -- `count`, `sum` and `fold` give is what Finite.antt and Loops.antt say of the numbers below n. Each law takes the call's clause
 -- `ran` and what one call of the closure gives.
-use Prim.Native.Nat.{ℕ, zero, suc, ◌+◌, ◌-◌, ◌≤◌, ◌<◌}
-use mathlib.Core.Bool.{Bool, true, false, cond, ◌&&◌, ◌||◌, or-false, and-true}
-use mathlib.Core.Path.{◌≡◌, refl, sym, ap, subst, ◌∙◌}
-use mathlib.Core.List.{List, [], ◌∷◌, ◌++◌, map}
+use Prim.Native.Nat.{ℕ, zero, suc, ◌+◌, ◌-◌, ◌<◌}
+use mathlib.Core.Bool.{Bool, true, false, cond, ◌||◌, or-false, and-true}
+use mathlib.Core.Path.{◌≡◌, refl, ap, subst, ◌∙◌}
+use mathlib.Core.List.{List, [], ◌∷◌, ◌++◌}
 use native.Mathlib.Nat.{add-zero, zero-add, sub-zero}
-use native.Mathlib.Numerals.{add-one}
 use native.Mathlib.Omega.{arith}
 use lib.ListN.{length}
-use Rattle.std.specs.List.{range_with_len, list_any, list_all, find, fold, sum_by, count_by, filter, FoldsTo}
+use Rattle.std.specs.List.{range_with_len, list_any, list_all, find, fold, sum_by, count_by, FoldsTo}
 use Rattle.std.specs.Option.{MatchOption, option_or, option_map}
 use Rattle.std.specs.Bool.{⊤}
 use Rattle.std.specs.Fn.{Called, CalledAt}
@@ -27,7 +26,7 @@ use Rattle.std.proofs.lemmas.Iterator.Search.{any_from_yields_List, all_from_yie
 use Rattle.std.proofs.lemmas.Iterator.Consumers.{YieldsList-from_filter, count_from_yields_List, sum_by_from_yields_List, fits_by_from_yields_list, fold_from_yields_List}
 use Rattle.std.specs.Prelude.{Option, Some, None}
 use Rattle.std.proofs.lemmas.List.Folds.{list_any-append, list_all-append, find-append}
-use Rattle.std.proofs.lemmas.List.Sums.{fold_push, sum_by_push, sum-map, length-filter}
+use Rattle.std.proofs.lemmas.List.Sums.{fold_push, sum_by_push, length-filter}
 use Rattle.records.specs.Finite.{any, all, count, sum, least}
 use Rattle.records.specs.Helpers.Loops.{upto}
 

@@ -1,14 +1,10 @@
 -- A token of sort 6 or 7 names its argument, any other no attribute (NamedLaws).
-use mathlib.Core.Logic.{⊎_elim}
 use mathlib.Core.Path.{sym}
 use Rattle.records.specs.Layout.{max_attributes}
 use Rattle.records.specs.Named.{has_attribute}
 use Rattle.records.proofs.General.SetLaws.{set_none}
 use Rattle.records.proofs.NamedLaws.{no_attribute}
 use Rattle.check_concept.proofs.named.attribute_of.Goals as goal
-
-pub returns-in-Forward : goal.returns-in-Forward
-returns-in-Forward c = ⊎_elim (λ e. rw e c.only.ensures) (λ e. rw e c.only.ensures) c.in-Forward.is
 
 pub returns-in_default : goal.returns-in_default
 returns-in_default c =

@@ -6,9 +6,6 @@ use Rattle.records.proofs.General.SetLaws.{set_none}
 use Rattle.records.proofs.NamedLaws.{no_class}
 use Rattle.check_concept.proofs.named.class_of.Goals as goal
 
-pub returns-in-Class : goal.returns-in-Class
-returns-in-Class c = rw c.in-Class.is c.only.ensures
-
 pub returns-in_default : goal.returns-in_default
 returns-in_default c =
     let t = c.args.token in
