@@ -5,21 +5,30 @@ ghost use Rattle.std.specs.Prelude.{◌≡◌, ◌+◌, ◌≤◌, length};
 ghost use Rattle.records.specs.Helpers.Word.{IsWord};
 ghost use Rattle.records.specs.Layout.{max_views};
 ghost use Rattle.records.specs.CatalogueRecord.{views as views_in, length_at, start_at, view_at};
-ghost use Rattle.records.specs.CatalogueRefusal.{refusal_13, catalogue_number};
+ghost use Rattle.records.specs.CatalogueRefusal.{refusal_13, catalogue_answer};
 
-use check_concept::check_view;
-use records::concept::ConceptAnswer;
+use check_concept::check_concept;
+use records::concept::View;
 use records::layout::word;
+use records::refusal::Refusal;
 use records::schema::Signature;
 
 pub const MAX_VIEWS: usize = 16;
 
+#[tactic(auto, unfolding(
+    records::specs::CatalogueRecord::views,
+    records::specs::Layout::size_at
+))]
 pub fn views(words: &[u16]) -> usize
     ensures { IsWord (views_in words.now) result }
 {
     word(words, 0)
 }
 
+#[tactic(auto, unfolding(
+    records::specs::CatalogueRecord::length_at,
+    records::specs::Layout::size_at
+))]
 fn length_at(words: &[u16], i: usize) -> usize
     requires { i ≤ max_views }
     ensures { IsWord (length_at words.now i) result }
@@ -32,11 +41,7 @@ fn start_at(words: &[u16], i: usize) -> usize
     requires { i ≤ max_views }
     ensures { result ≡ start_at words.now i }
 {
-    let mut start = 1 + views(words);
-    for k in 0..i {
-        start += length_at(words, k);
-    }
-    start
+    1 + views(words) + (0..i).map(|k| length_at(words, k)).sum::<usize>()
 }
 
 pub fn view_at<'a>(words: &'a [u16], i: usize) -> &'a [u16]
@@ -59,19 +64,16 @@ fn bad_layout(words: &[u16]) -> bool
     words.len() != start_at(words, n)
 }
 
-// The number of the first refusal that applies, or 0.
-pub fn check_catalogue(s: Signature, words: &[u16]) -> u16
-    ensures { result ≡ catalogue_number s words.now }
+// The first refusal that applies, or nothing.
+pub fn check_catalogue(s: Signature, words: &[u16]) -> Result<(), Refusal>
+    ensures { result ≡ catalogue_answer s words.now }
 {
     if bad_layout(words) {
-        return 13;
+        return Err(Refusal::CatalogueLayout);
     }
     let n = views(words);
     for i in 0..n {
-        let read = check_view(s, view_at(words, i));
-        let ConceptAnswer::Accepted(_) = read else {
-            return read.number();
-        };
+        check_concept::<View>(s, view_at(words, i))?;
     }
-    0
+    Ok(())
 }

@@ -1,22 +1,35 @@
--- The lengths passed are added up; seventeen words that are added up stay small.
-use mathlib.Core.Path.{ap, ◌∙◌}
-use native.Mathlib.Nat.{le_antisymm}
+-- Seventeen words that are added up stay small.
+use Prim.Native.Nat.{ℕ, zero, suc, ◌+◌, ◌*◌, ◌≤◌, ◌<◌, ◌^◌}
 use native.Mathlib.Omega.{arith}
-use Rattle.records.specs.CatalogueRecord.{start_at}
-use Rattle.records.proofs.CatalogueLaws.{start_first, start_more}
+use Rattle.std.proofs.Common.{rules}
+use Rattle.records.specs.Finite.{sum}
+use Rattle.records.specs.Layout.{size_at}
+use Rattle.records.specs.CatalogueRecord.{length_at, start_at}
+use Rattle.records.proofs.General.RangeLaws.{sum_below, sum_fits}
 use Rattle.check_catalogue.proofs.start_at.Goals as goal
 
-pub overflow_add-start : goal.overflow_add-start
-overflow_add-start c = omega (arith, c.views-start.ensures.word)
+sum_small : (f : ℕ → ℕ) (n : ℕ) → ((k : ℕ) → f k < 2 ^ 16) → sum n f ≤ n * 2 ^ 16
+unfolding sum
+sum_small f zero h = omega arith
+sum_small f (suc n) h = omega (arith, sum_small f n h, h n)
 
-pub loop-k-init : goal.loop-k-init
-loop-k-init c = (omega arith, omega (arith, c.views-start.ensures.value, start_first c.args.words.now), omega (arith, c.views-start.ensures.word))
+pub sum-requires-clause-fits : goal.sum-requires-clause-fits
+unfolding length_at size_at
+sum-requires-clause-fits c =
+    sum_fits {h = length_at c.args.words.now} c.map.ensures.source c.map.ensures.closure (λ x r q k. search rules)
+    (omega (arith, sum_small (length_at c.args.words.now) c.args.i (λ k. omega (arith, c.type_inv.words (1 + k)))))
 
-pub overflow_add-start-in-loop-k : goal.overflow_add-start-in-loop-k
-overflow_add-start-in-loop-k c = omega (arith, c.length_at-start.ensures.word)
-
-pub loop-k-preserved : goal.loop-k-preserved
-loop-k-preserved c = (omega arith, omega (arith, c.length_at-start.ensures.value, c.length_at-start.ensures.word, start_more c.args.words.now c.loop-k.k), omega (arith, c.length_at-start.ensures.word))
+pub overflow_add-result-2 : goal.overflow_add-result-2
+unfolding length_at size_at
+overflow_add-result-2 c =
+    omega (
+      arith,
+      c.views.ensures.word,
+      sum_below {h = length_at c.args.words.now} c.map.ensures.source c.map.ensures.closure c.sum.ensures.ran (λ x r q k. search rules),
+      sum_small (length_at c.args.words.now) c.args.i (λ k. omega (arith, c.type_inv.words (1 + k))),
+    )
 
 pub returns : goal.returns
-returns c = c.loop-k.invariant.1 ∙ ap (start_at _) (le_antisymm c.loop-k.invariant.0 c.loop-k-test.false)
+unfolding start_at
+returns c =
+    rw (c.views.ensures.value, sum_below {h = length_at c.args.words.now} c.map.ensures.source c.map.ensures.closure c.sum.ensures.ran (λ x r q k. search rules))
