@@ -7,6 +7,9 @@ use mathlib.Core.Path.{◌≡◌, refl, sym, ap, ap₂, ◌∙◌}
 use native.Mathlib.Decide.{dec_lt}
 use native.Mathlib.Nat.{add-mul, mul-le-mul_right}
 use native.Mathlib.Omega.{arith}
+use borrow.Rule.Slice.PartMut.{put_mid}
+use Rattle.std.proofs.Common.{rules, ◌⊎◌}
+use Rattle.std.proofs.lemmas.List.{places, length-replicate, get_or-replicate}
 use borrow.Author.Tests.{eq-eqb, ne_eqb, eqb-true, lt-ltb, le-ltb, ltb-true}
 use lib.Bits.{bit_and, bit_or}
 use lib.Dec.{eqb, ltb}
@@ -31,25 +34,49 @@ use Rattle.rows.specs.Blocks.{block_words, block_bits, cell, Merged}
 use Rattle.paths.specs.Relation.{Outside, Room, Cleared, Diagonal, Followed, carries, Stepped, Gathered, Shared}
 use Rattle.rows.proofs.RowLaws.{row_same}
 use Rattle.rows.proofs.BlockLaws.{row_fits, row_one, block_word}
+use Rattle.paths.proofs.RoomLaws.{room_words}
 use Rattle.paths.proofs.StepLaws.{object_end, end_few, Facing, facing_within}
 
 -- Rows cleared.
 
--- a word with no bits
-abbrev pub no_word : ℕ → ℕ
-no_word i = 0
+-- a word of the part that was written, m words from a on, and a word outside it
+module _ (a m : ℕ) (ws part : List ℕ) (long : length part ≡ m) (room : a + m ≤ length ws) where
+  part_size : length (put_mid a m ws part) ≡ length ws
+  part_size = search (rules, places)
 
-pub cleared_of : {n : ℕ} (b : Bases) {ws vs : List ℕ} → Filled no_word (b.rel * b.blocks * block_words) (n * b.blocks * block_words) ws vs → Cleared n b ws vs
-cleared_of {n} b {ws} {vs} z =
+  part_in : (i : ℕ) → i < m → get_or (put_mid a m ws part) (a + i) 0 ≡ get_or part i 0
+  part_in i l = search (rules, places)
+
+  part_out : (i : ℕ) → (i < a) ⊎ (a + m ≤ i) → get_or (put_mid a m ws part) i 0 ≡ get_or ws i 0
+  part_out i out = ⊎_elim (λ l. search (rules, places)) (λ l. search (rules, places)) out
+
+pub cleared_of : {n m : ℕ} (b : Bases) {ws part : List ℕ} → Room n b ws → m ≡ n * b.blocks * block_words → part ≡ replicate m 0
+    → Cleared n b ws (put_mid (b.rel * b.blocks * block_words) m ws part)
+cleared_of {n} {m} b {ws} {part} room k e =
     record {
-      size = z.size;
-      bits = λ t o l m. block_word vs ((b.rel + t) * b.blocks) o
-          ∙ ap (λ (x : ℕ). bit x (o % word_bits)) (ap (λ (i : ℕ). get_or vs i 0) (omega (arith, add-mul b.rel t b.blocks)) ∙ z.done (t * b.blocks * block_words + o / word_bits) (omega (arith, row_fits t n b.blocks l)))
+      size = part_size start m ws part long fits;
+      bits = λ t o l q. block_word vs ((b.rel + t) * b.blocks) o
+          ∙ ap (λ (x : ℕ). bit x (o % word_bits)) (ap (λ (i : ℕ). get_or vs i 0) (omega (arith, add-mul b.rel t b.blocks)) ∙ zero (t * b.blocks * block_words + o / word_bits) (omega (arith, row_fits t n b.blocks l)))
           ∙ word_zero (o % word_bits);
-      kept = λ k o out m. block_word vs (k * b.blocks) o
-          ∙ ap (λ (x : ℕ). bit x (o % word_bits)) (z.kept (k * b.blocks * block_words + o / word_bits) (λ i j q. ⊎_elim (λ l. omega (arith, q, j, row_fits k b.rel b.blocks l)) (λ l. omega (arith, q, j, mul-le-mul_right b.blocks l, add-mul b.rel n b.blocks)) out))
-          ∙ sym (block_word ws (k * b.blocks) o);
+      kept = λ t o out q. block_word vs (t * b.blocks) o
+          ∙ ap (λ (x : ℕ). bit x (o % word_bits)) (part_out start m ws part long fits (t * b.blocks * block_words + o / word_bits) (⊎_elim (λ l. inl (omega (arith, row_fits t b.rel b.blocks l))) (λ l. inr (omega (arith, mul-le-mul_right b.blocks l, add-mul b.rel n b.blocks))) out))
+          ∙ sym (block_word ws (t * b.blocks) o);
     }
+  where
+    start : ℕ
+    start = b.rel * b.blocks * block_words
+
+    vs : List ℕ
+    vs = put_mid start m ws part
+
+    long : length part ≡ m
+    long = rw e (length-replicate m 0)
+
+    fits : start + m ≤ length ws
+    fits = omega (arith, room_words b room)
+
+    zero : (i : ℕ) → i < m → get_or vs (start + i) 0 ≡ 0
+    zero i l = part_in start m ws part long fits i l ∙ rw e (get_or-replicate m i 0 0 l)
 
 -- The identity.
 

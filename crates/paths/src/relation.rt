@@ -33,10 +33,7 @@ fn clear(rows: &mut [u64], bases: Bases, n: usize)
 {
     let from = bases.rel * bases.blocks * BLOCK_WORDS;
     let count = n * bases.blocks * BLOCK_WORDS;
-    for i in 0..count {
-        let k = from + i;
-        rows[k] = 0;
-    }
+    rows[from..from + count].fill(0);
 }
 
 // Each object below `n` to itself.
