@@ -1,19 +1,21 @@
 -- What the loops over the rows of relations keep: rows cleared, the identity, a step's facts, and what two relations share.
-use Prim.Native.Nat.{ℕ, ◌+◌, ◌*◌, ◌/◌, ◌%◌, ◌≤◌, ◌<◌}
+use Prim.Native.Nat.{ℕ, ◌+◌, ◌-◌, ◌*◌, ◌/◌, ◌%◌, ◌≤◌, ◌<◌}
 use mathlib.Core.Bool.{Bool, false, So, not, ◌&&◌, ◌||◌, and-false, or-false}
-use mathlib.Core.List.{List}
+use mathlib.Core.List.{List, ◌++◌}
 use mathlib.Core.Logic.{inl, inr, ⊎_elim}
 use mathlib.Core.Path.{◌≡◌, refl, sym, ap, ap₂, ◌∙◌}
 use native.Mathlib.Decide.{dec_lt}
-use native.Mathlib.Nat.{add-mul, mul-le-mul_right}
+use native.Mathlib.Nat.{add-mul, mul_assoc, mul-le-mul_right}
 use native.Mathlib.Omega.{arith}
-use borrow.Rule.Slice.PartMut.{put_mid}
+use borrow.Rule.Slice.PartMut.{put_mid, post_of}
 use Rattle.std.proofs.Common.{rules, ◌⊎◌}
-use Rattle.std.proofs.lemmas.List.{places, length-replicate, get_or-replicate}
+use Rattle.std.proofs.lemmas.List.{places, length-replicate, get_or-replicate, length-take}
+use Rattle.std.proofs.lemmas.List.Edits.{fill_by_more}
 use borrow.Author.Tests.{eq-eqb, ne_eqb, eqb-true, lt-ltb, le-ltb, ltb-true}
 use lib.Bits.{bit_and, bit_or}
 use lib.Dec.{eqb, ltb}
-use lib.ListN.{length, get_or, replicate}
+use lib.ListN.{length, get_or, set, take, drop, replicate}
+use lib.Seq.{get_or-set_other}
 use Rattle.records.specs.Layout.{state_layout, entries}
 use Rattle.records.specs.StateRecord.{objects, kind_at}
 use Rattle.records.proofs.General.BoolLaws.{and_left, and_both, and_map, or_true_cases, or_left, or_right, test_same, eqb_same}
@@ -28,12 +30,12 @@ use Rattle.paths.specs.declared.steps.Step.{Step}
 use Rattle.paths.specs.declared.steps.Ends.{Ends}
 use Rattle.paths.specs.declared.relation.Bases.{Bases}
 use Rattle.rows.specs.Selection.{set_words}
-use Rattle.rows.specs.Rows.{Filled, SharedRow}
+use Rattle.rows.specs.Rows.{SharedRow}
 use Rattle.paths.specs.Steps.{origin_at, target_at, lands, object_in}
 use Rattle.rows.specs.Blocks.{block_words, block_bits, cell, Merged}
 use Rattle.paths.specs.Relation.{Outside, Room, Cleared, Diagonal, Followed, carries, Stepped, Gathered, Shared}
 use Rattle.rows.proofs.RowLaws.{row_same}
-use Rattle.rows.proofs.BlockLaws.{row_fits, row_one, block_word}
+use Rattle.rows.proofs.BlockLaws.{row_fits, row_end, row_one, block_word}
 use Rattle.paths.proofs.RoomLaws.{room_words}
 use Rattle.paths.proofs.StepLaws.{object_end, end_few, Facing, facing_within}
 
@@ -147,27 +149,55 @@ module _ {n : ℕ} {b : Bases} where
 
 -- What two rows share, put into a set.
 
--- where the words of row r begin
-abbrev pub row_start : ℕ → ℕ → ℕ
-row_start k r = r * k * block_words
+-- vs is us with what the first n words of ps and of qs share put in
+pub record Gathering (us ps qs : List ℕ) (n : ℕ) (vs : List ℕ) : Type 0 where
+  done : (i : ℕ) → i < n → get_or vs i 0 ≡ bit_or (get_or us i 0) (bit_and (get_or ps i 0) (get_or qs i 0))
+  kept : (i : ℕ) → n ≤ i → get_or vs i 0 ≡ get_or us i 0
 
-abbrev pub gathered_word : List ℕ → List ℕ → ℕ → ℕ → ℕ → ℕ
-gathered_word set ws p q i = bit_or (get_or set i 0) (bit_and (get_or ws (p + i) 0) (get_or ws (q + i) 0))
+module _ {us ps qs : List ℕ} where
+  pub gathering_none : Gathering us ps qs 0 us
+  gathering_none = record { done = λ i l. absurd (omega arith); kept = λ i l. refl }
 
-pub gathering_word : {set : List ℕ} (ws : List ℕ) {vs : List ℕ} (p q : ℕ) {j : ℕ} → Filled (gathered_word set ws p q) 0 j set vs → gathered_word vs ws p q j ≡ gathered_word set ws p q j
-gathering_word {set} ws p q {j} z =
-    ap (λ (x : ℕ). bit_or x (bit_and (get_or ws (p + j) 0) (get_or ws (q + j) 0))) (z.kept j (λ i m e. omega arith))
+  pub gathering_more : {n : ℕ} {vs : List ℕ} → Gathering us ps qs n vs → n < length vs
+      → Gathering us ps qs (n + 1) (set vs n (bit_or (get_or vs n 0) (bit_and (get_or ps n 0) (get_or qs n 0))))
+  gathering_more {n} {vs} z l =
+      record {
+        done = λ i m. rw (z.kept n (omega arith)) (fill_by_more (λ i. bit_or (get_or us i 0) (bit_and (get_or ps i 0) (get_or qs i 0))) vs n 0 l z.done i m);
+        kept = λ i m. get_or-set_other vs n i _ 0 (λ e. omega arith) ∙ z.kept i (omega arith);
+      }
 
-pub gathered_of : {k : ℕ} {set ws vs : List ℕ} {r s : ℕ} → Filled (gathered_word set ws (row_start k r) (row_start k s)) 0 (k * block_words) set vs → Gathered k set ws r s vs
+-- the words of row r
+abbrev pub row_words : ℕ → List ℕ → ℕ → List ℕ
+row_words k ws r = take (k * block_words) (take (length ws - r * (k * block_words)) (drop (r * (k * block_words)) ws))
+
+pub gathered_of : {k j : ℕ} {us ws vs : List ℕ} {r s : ℕ} → k * block_words ≤ length us → (r + 1) * k * block_words ≤ length ws → (s + 1) * k * block_words ≤ length ws
+    → Gathering (take (k * block_words) us) (row_words k ws r) (row_words k ws s) j vs
+    → length vs ≡ length (take (k * block_words) us)
+    → length vs ≤ j
+    → Gathered k us ws r s (vs ++ post_of 0 (k * block_words) us)
 unfolding bit_at
-gathered_of {k} {set} {ws} {vs} {r} {s} z =
+gathered_of {k} {j} {us} {ws} {vs} {r} {s} fits p q z e m =
     record {
-      size = z.size;
-      bits = λ o l. ap (λ (x : ℕ). bit x (o % word_bits)) (ap (λ (i : ℕ). get_or vs i 0) (omega arith) ∙ z.done (o / word_bits) (omega arith))
+      size = search (rules, places);
+      bits = λ o l. ap (λ (x : ℕ). bit x (o % word_bits)) (word (o / word_bits) (omega arith))
           ∙ word_or _ _ (o % word_bits)
-          ∙ ap (λ (b : Bool). bit_at set o || b) (word_and _ _ (o % word_bits) ∙ ap₂ (λ (a b : Bool). a && b) (sym (block_word ws (r * k) o)) (sym (block_word ws (s * k) o)));
-      kept = λ o l. ap (λ (x : ℕ). bit x (o % word_bits)) (z.kept (o / word_bits) (λ i m q. omega arith));
+          ∙ ap (λ (b : Bool). bit_at us o || b) (word_and _ _ (o % word_bits) ∙ ap₂ (λ (a b : Bool). a && b) (row_cell r p o l) (row_cell s q o l));
+      kept = λ o l. ap (λ (x : ℕ). bit x (o % word_bits)) (search (rules, places));
     }
+  where
+    word : (i : ℕ) → i < k * block_words
+        → get_or (vs ++ post_of 0 (k * block_words) us) i 0 ≡ bit_or (get_or us i 0) (bit_and (get_or (row_words k ws r) i 0) (get_or (row_words k ws s) i 0))
+    word i l =
+        let n : i < length vs = omega (arith, e, fits, length-take (k * block_words) us) in
+        let here : get_or (vs ++ post_of 0 (k * block_words) us) i 0 ≡ get_or vs i 0 = search (rules, places) in
+        let old : get_or (take (k * block_words) us) i 0 ≡ get_or us i 0 = search (rules, places) in
+        here ∙ z.done i (omega arith) ∙ ap (λ (x : ℕ). bit_or x (bit_and (get_or (row_words k ws r) i 0) (get_or (row_words k ws s) i 0))) old
+
+    row_cell : (t : ℕ) → (t + 1) * k * block_words ≤ length ws → (o : ℕ) → o < k * block_bits → bit (get_or (row_words k ws t) (o / word_bits) 0) (o % word_bits) ≡ cell k ws t o
+    row_cell t n o l =
+        let m : t * (k * block_words) + k * block_words ≤ length ws = omega (arith, row_end t k (length ws) n, mul_assoc t k block_words) in
+        let here : get_or (row_words k ws t) (o / word_bits) 0 ≡ get_or ws (t * (k * block_words) + o / word_bits) 0 = search (rules, places) in
+        ap (λ (x : ℕ). bit x (o % word_bits)) (here ∙ ap (λ (i : ℕ). get_or ws i 0) (omega (arith, mul_assoc t k block_words))) ∙ sym (block_word ws (t * k) o)
 
 module _ {b : Bases} {ws : List ℕ} where
   pub shared_none : Shared 0 b ws (replicate set_words 0)

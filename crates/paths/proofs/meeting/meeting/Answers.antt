@@ -16,9 +16,6 @@ overflow_mul-ps c = omega (arith, c.objects-n.ensures.word)
 pub relate-requires : goal.relate-requires
 relate-requires c = record { walk = c.requires.walk; room = room_first _ c.objects-n.ensures.value c.blocks_for-blocks.ensures c.requires.state_in_bounds c.requires.rows_len_bound }
 
-pub overflow_mul-qs : goal.overflow_mul-qs
-overflow_mul-qs c = omega (arith, c.objects-n.ensures.word)
-
 pub relate-requires-2 : goal.relate-requires-2
 relate-requires-2 c = let e = c.relate.ensures.size in
     record { walk = c.requires.walk_2; room = room_second _ c.objects-n.ensures.value c.blocks_for-blocks.ensures (rw e c.requires.state_in_bounds) (rw e c.requires.rows_len_bound) }
