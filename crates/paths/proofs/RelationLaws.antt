@@ -1,6 +1,6 @@
 -- What the loops over the rows of relations keep: rows cleared, the identity, a step's facts, and what two relations share.
 use Prim.Native.Nat.{ℕ, ◌+◌, ◌-◌, ◌*◌, ◌/◌, ◌%◌, ◌≤◌, ◌<◌}
-use mathlib.Core.Bool.{Bool, false, So, not, ◌&&◌, ◌||◌, and-false, or-false}
+use mathlib.Core.Bool.{Bool, So, not, ◌&&◌, ◌||◌, and-false, or-false}
 use mathlib.Core.List.{List, ◌++◌}
 use mathlib.Core.Logic.{inl, inr, ⊎_elim}
 use mathlib.Core.Path.{◌≡◌, refl, sym, ap, ap₂, ◌∙◌}
@@ -31,8 +31,8 @@ use Rattle.paths.specs.declared.steps.Ends.{Ends}
 use Rattle.paths.specs.declared.relation.Bases.{Bases}
 use Rattle.rows.specs.Selection.{set_words}
 use Rattle.rows.specs.Rows.{SharedRow}
-use Rattle.paths.specs.Steps.{origin_at, target_at, lands, object_in}
-use Rattle.rows.specs.Blocks.{block_words, block_bits, cell, Merged}
+use Rattle.paths.specs.Steps.{origin_at, target_at, lands}
+use Rattle.rows.specs.Blocks.{block_words, block_bits, cell}
 use Rattle.paths.specs.Relation.{Outside, Room, Cleared, Diagonal, Followed, carries, Stepped, Gathered, Shared}
 use Rattle.rows.proofs.RowLaws.{row_same}
 use Rattle.rows.proofs.BlockLaws.{row_fits, row_end, row_one, block_word}
@@ -222,24 +222,6 @@ carries_kind : (w : List ℕ) (x : Step) (landings : List ℕ) (a : ℕ) (b : Ba
     → So (carries w x landings a b ws t o i)
     → kind_at w i ≡ x.kind
 carries_kind w x landings a b ws t o i h = eqb-true (kind_at w i) x.kind (and_left _ _ (and_left _ _ h))
-
-module _ {w : List ℕ} {e : Ends} {set : List ℕ} {b : Bases} where
-  pub followed_more : {i g c : ℕ} {ws vs : List ℕ} → g ≡ object_in w e.targets i → c ≡ object_in w e.origins i → So (bit_at set g)
-      → Merged b.blocks ws (b.rel + g) (b.spare + c) vs
-      → Followed w e set b ws i vs
-  followed_more {i} {g} {c} t-is o_is h m =
-      record {
-        size = m.size;
-        bits = λ k o l. m.bits k o l ∙ rw (← t-is, ← o_is, h);
-      }
-
-  -- the target is not in the set
-  pub followed_outside : {i g : ℕ} {ws : List ℕ} → g ≡ object_in w e.targets i → bit_at set g ≡ false → Followed w e set b ws i ws
-  followed_outside {i} {g} {ws} t-is h =
-      record {
-        size = refl;
-        bits = λ k o l. rw (← t-is, h) (sym (or-false (cell b.blocks ws k o)));
-      }
 
 module _ {w : List ℕ} {x : Step} {landings : List ℕ} {a : ℕ} {b : Bases} where
   pub stepped_none : {n from : ℕ} {ws vs : List ℕ} → n ≡ objects w → Cleared n b ws vs → KindParts w x.kind from from → Stepped w x landings a b vs from vs

@@ -66,14 +66,8 @@ pub fn meeting(
         blocks,
     };
     relate(words, state, landings, first, rows, ps);
-    let qs = Bases {
-        rel: n,
-        ..ps
-    };
+    let qs = Bases { rel: n, ..ps };
     relate(words, state, landings, last, rows, qs);
-    let both = Bases {
-        spare: n,
-        ..ps
-    };
+    let both = Bases { spare: n, ..ps };
     shared(rows, both, n)
 }

@@ -1,6 +1,6 @@
 -- What the whole path leads to is what its beginning leads to in the set (Reaching); the beginning is a token shorter at least
 -- at each turn, and in the end it is empty.
-use Rattle.paths.proofs.WalkLaws.{walk_few, walk_landing, walk_room, walk_suc, walk_followable, walk_before, reach_starts, reach_on, reach_ends}
+use Rattle.paths.proofs.WalkLaws.{walk_few, walk_room, walk_suc, walk_followable, walk_before, reach_starts, reach_on, reach_ends}
 use Rattle.records.proofs.ReadingLaws.{path_some}
 use Rattle.records.proofs.PileLaws.{start_le}
 use Rattle.paths.proofs.reaching.reaching.Goals as goal
@@ -19,10 +19,9 @@ loop-step-init c = (walk_suc c.requires, reach_starts c.requires c.objects.ensur
 pub step_at-requires : goal.step_at-requires
 step_at-requires c = omega (arith, walk_few c.loop-step.invariant.0)
 
-pub origins-set-requires : goal.origins-set-requires
-origins-set-requires c =
-    let z = c.loop-step.invariant.0 in
-    record { followable = walk_followable z c.type_inv.words _ (sym c.step_at.ensures ∙ c.in-Some.is); set_words_in_bounds = walk_landing z; into_len = c.loop-step.invariant.1.size }
+pub origins-set-requires-clause-followable : goal.origins-set-requires-clause-followable
+origins-set-requires-clause-followable c =
+    walk_followable c.loop-step.invariant.0 c.type_inv.words _ (sym c.step_at.ensures ∙ c.in-Some.is)
 
 pub start_of-at-requires : goal.start_of-at-requires
 start_of-at-requires c = omega (arith, walk_few c.loop-step.invariant.0)
