@@ -1,5 +1,5 @@
 -- Semantics.antt and Schema.antt once more, as tests that compute. ExecutableLaws of proofs/ shows that they agree.
-use Rattle.std.specs.Prelude.{ℕ, Bool, true, not, ◌&&◌, ◌||◌, eqb}
+use Rattle.std.specs.Prelude.{ℕ, Bool, true, not, cond, ◌&&◌, ◌||◌, eqb, Option, Some, None}
 use Rattle.records.specs.declared.schema.Axiom.{Axiom}
 use Rattle.records.specs.declared.schema.Axiom.TheVariants.{Subclass, Typing, Necessary, Single, Relates}
 use Rattle.records.specs.Finite.{all, any, least}
@@ -42,3 +42,7 @@ holds I (Relates P A B) = all I.size λ d. all I.size λ e. implies (I.pairs P d
 -- the place of the first broken axiom, or the number of axioms where none is broken
 abbrev pub first_broken : Schema → State → ℕ
 first_broken S I = least S.axioms λ i. not (holds I (S.axiom_at i))
+
+-- the first broken axiom, or none where all hold
+unfoldable pub broken : Schema → State → Option ℕ
+broken S I = cond (eqb (first_broken S I) S.axioms) None (Some (first_broken S I))
