@@ -1,6 +1,6 @@
 -- What the code finds at a place is the item that ends there: for each token, what it makes of its operands (Reads) is what
 -- the code makes of theirs, and its steps have their landings.
-use Prim.Native.Nat.{ℕ, suc, ◌+◌, ◌-◌, ◌*◌, ◌≤◌}
+use Prim.Native.Nat.{ℕ, suc, ◌+◌, ◌-◌, ◌≤◌}
 use mathlib.Core.Bool.{false, So}
 use mathlib.Core.List.{List}
 use mathlib.Core.Path.{◌≡◌, refl, sym, ap, subst, ◌∙◌}
@@ -22,9 +22,8 @@ use Rattle.records.proofs.ReadingLaws.{Reads, step_reads, concept_next, path_nex
 use Rattle.index.specs.Kinds.{KindsRise}
 use Rattle.index.proofs.KindLaws.{kinds_rise}
 use Rattle.evaluate.specs.declared.items.Found.{Found}
-use Rattle.rows.specs.Selection.{set_words, Selection}
-use Rattle.paths.specs.Evaluable.{Evaluable}
-use Rattle.evaluate.specs.Relations.{is_common, common_at, Relations}
+use Rattle.rows.specs.Selection.{Selection}
+use Rattle.evaluate.specs.Relations.{is_common, common_at, Landable, Relations}
 use Rattle.rows.specs.Rows.{SharedRow, KindSet, Put, Below}
 use Rattle.paths.specs.Relation.{Met}
 use Rattle.paths.specs.Landings.{Landed, Walk}
@@ -220,21 +219,21 @@ module _ {w v ls rs : List ℕ} {end : ℕ} (z : Place w v ls rs end) where
     pub path_put : {ms ns ss ts : List ℕ} {b : ℕ} → PathAt w v (suc (end - 1)) ms ns ss ts b → PathAt w v end ms ns ss ts b
     path_put {ms} {ns} {ss} {ts} {b} y = subst (λ (e : ℕ). PathAt w v e ms ns ss ts b) (sym (path_next w end h)) y
 
-module _ {s : Signature} {w v : List ℕ} (ok : Evaluable s w v) {n : ℕ} (last : n ≡ entries concept_layout w) where
-  pub place_last : {ls rs : List ℕ} → entries concept_layout w * set_words ≤ length ls → Relations w v rs → Place w v ls rs n
-  place_last q r =
+module _ {s : Signature} {w v ls : List ℕ} (z : Landable s w v ls) {n : ℕ} (last : n ≡ entries concept_layout w) where
+  pub place_last : {words : ℕ} {rs : List ℕ} → Relations w v words → length rs ≡ words → Place w v ls rs n
+  place_last r e =
       record {
         signature = s;
-        evaluable = ok;
+        evaluable = z.evaluable;
         within = omega arith;
-        room = q;
-        relations = λ i l t. r.room (any_of_lem (common_at w) (entries concept_layout w) i (omega arith) (ap is_common t));
-        few = r.few;
+        room = z.room;
+        relations = λ i l t. rw e (r.room (any_of_lem (common_at w) (entries concept_layout w) i (omega arith) (ap is_common t)));
+        few = rw e r.few;
       }
 
   pub concept_last : HasConcept w n
-  concept_last = rw last (accepted_concept w ok.pile).0
+  concept_last = rw last (accepted_concept w z.evaluable.pile).0
 
-  pub selection_last : {ls ms rs ss : List ℕ} {r : Found} → ConceptAt w v n ls ms rs ss r → Selection (state_of v) (concept_of w) r.set
+  pub selection_last : {ms rs ss : List ℕ} {r : Found} → ConceptAt w v n ls ms rs ss r → Selection (state_of v) (concept_of w) r.set
   unfolding concept_of
   selection_last h = rw (← last) h.selection

@@ -74,11 +74,9 @@ fn both(words: &[u16], state: &[u16], at: usize, landings: &mut [u64], rows: &mu
 {
     let last = concept(words, state, at, landings, rows);
     let first = concept(words, state, last.start, landings, rows);
-    let ps = first.set;
-    let qs = last.set;
     Found {
         start: first.start,
-        set: shared_row(&ps, &qs, 0),
+        set: shared_row(&first.set, &last.set, 0),
     }
 }
 
@@ -129,8 +127,7 @@ pub fn path(
     let at = end - 1;
     if is_step(token_at(words, at)) {
         let landing = concept(words, state, at, landings, rows);
-        let set = landing.set;
-        put(landings, at, &set);
+        put(landings, at, &landing.set);
         path(words, state, landing.start, landings, rows)
     } else {
         at

@@ -1,16 +1,21 @@
 -- What the loops over the rows of relations keep: rows cleared, the identity, a step's facts, and what two relations share.
-use Prim.Native.Nat.{ℕ, ◌+◌, ◌*◌, ◌/◌, ◌%◌, ◌≤◌, ◌<◌}
-use mathlib.Core.Bool.{Bool, false, So, not, ◌&&◌, ◌||◌, and-false, or-false}
-use mathlib.Core.List.{List}
+use Prim.Native.Nat.{ℕ, ◌+◌, ◌-◌, ◌*◌, ◌/◌, ◌%◌, ◌≤◌, ◌<◌}
+use mathlib.Core.Bool.{Bool, So, not, ◌&&◌, ◌||◌, and-false, or-false}
+use mathlib.Core.List.{List, ◌++◌}
 use mathlib.Core.Logic.{inl, inr, ⊎_elim}
 use mathlib.Core.Path.{◌≡◌, refl, sym, ap, ap₂, ◌∙◌}
 use native.Mathlib.Decide.{dec_lt}
-use native.Mathlib.Nat.{add-mul, mul-le-mul_right}
+use native.Mathlib.Nat.{add-mul, mul_assoc, mul-le-mul_right}
 use native.Mathlib.Omega.{arith}
+use borrow.Rule.Slice.PartMut.{put_mid, post_of}
+use Rattle.std.proofs.Common.{rules, ◌⊎◌}
+use Rattle.std.proofs.lemmas.List.{places, length-replicate, get_or-replicate, length-take}
+use Rattle.std.proofs.lemmas.List.Edits.{fill_by_more}
 use borrow.Author.Tests.{eq-eqb, ne_eqb, eqb-true, lt-ltb, le-ltb, ltb-true}
 use lib.Bits.{bit_and, bit_or}
 use lib.Dec.{eqb, ltb}
-use lib.ListN.{length, get_or, replicate}
+use lib.ListN.{length, get_or, set, take, drop, replicate}
+use lib.Seq.{get_or-set_other}
 use Rattle.records.specs.Layout.{state_layout, entries}
 use Rattle.records.specs.StateRecord.{objects, kind_at}
 use Rattle.records.proofs.General.BoolLaws.{and_left, and_both, and_map, or_true_cases, or_left, or_right, test_same, eqb_same}
@@ -25,31 +30,55 @@ use Rattle.paths.specs.declared.steps.Step.{Step}
 use Rattle.paths.specs.declared.steps.Ends.{Ends}
 use Rattle.paths.specs.declared.relation.Bases.{Bases}
 use Rattle.rows.specs.Selection.{set_words}
-use Rattle.rows.specs.Rows.{Filled, SharedRow}
-use Rattle.paths.specs.Steps.{origin_at, target_at, lands, object_in}
-use Rattle.rows.specs.Blocks.{block_words, block_bits, cell, Merged}
+use Rattle.rows.specs.Rows.{SharedRow}
+use Rattle.paths.specs.Steps.{origin_at, target_at, lands}
+use Rattle.rows.specs.Blocks.{block_words, block_bits, cell}
 use Rattle.paths.specs.Relation.{Outside, Room, Cleared, Diagonal, Followed, carries, Stepped, Gathered, Shared}
 use Rattle.rows.proofs.RowLaws.{row_same}
-use Rattle.rows.proofs.BlockLaws.{row_fits, row_one, block_word}
+use Rattle.rows.proofs.BlockLaws.{row_fits, row_end, row_one, block_word}
+use Rattle.paths.proofs.RoomLaws.{room_words}
 use Rattle.paths.proofs.StepLaws.{object_end, end_few, Facing, facing_within}
 
 -- Rows cleared.
 
--- a word with no bits
-abbrev pub no_word : ℕ → ℕ
-no_word i = 0
+-- a word of the part that was written, m words from a on, and a word outside it
+module _ (a m : ℕ) (ws part : List ℕ) (long : length part ≡ m) (room : a + m ≤ length ws) where
+  part_size : length (put_mid a m ws part) ≡ length ws
+  part_size = search (rules, places)
 
-pub cleared_of : {n : ℕ} (b : Bases) {ws vs : List ℕ} → Filled no_word (b.rel * b.blocks * block_words) (n * b.blocks * block_words) ws vs → Cleared n b ws vs
-cleared_of {n} b {ws} {vs} z =
+  part_in : (i : ℕ) → i < m → get_or (put_mid a m ws part) (a + i) 0 ≡ get_or part i 0
+  part_in i l = search (rules, places)
+
+  part_out : (i : ℕ) → (i < a) ⊎ (a + m ≤ i) → get_or (put_mid a m ws part) i 0 ≡ get_or ws i 0
+  part_out i out = ⊎_elim (λ l. search (rules, places)) (λ l. search (rules, places)) out
+
+pub cleared_of : {n m : ℕ} (b : Bases) {ws part : List ℕ} → Room n b ws → m ≡ n * b.blocks * block_words → part ≡ replicate m 0
+    → Cleared n b ws (put_mid (b.rel * b.blocks * block_words) m ws part)
+cleared_of {n} {m} b {ws} {part} room k e =
     record {
-      size = z.size;
-      bits = λ t o l m. block_word vs ((b.rel + t) * b.blocks) o
-          ∙ ap (λ (x : ℕ). bit x (o % word_bits)) (ap (λ (i : ℕ). get_or vs i 0) (omega (arith, add-mul b.rel t b.blocks)) ∙ z.done (t * b.blocks * block_words + o / word_bits) (omega (arith, row_fits t n b.blocks l)))
+      size = part_size start m ws part long fits;
+      bits = λ t o l q. block_word vs ((b.rel + t) * b.blocks) o
+          ∙ ap (λ (x : ℕ). bit x (o % word_bits)) (ap (λ (i : ℕ). get_or vs i 0) (omega (arith, add-mul b.rel t b.blocks)) ∙ zero (t * b.blocks * block_words + o / word_bits) (omega (arith, row_fits t n b.blocks l)))
           ∙ word_zero (o % word_bits);
-      kept = λ k o out m. block_word vs (k * b.blocks) o
-          ∙ ap (λ (x : ℕ). bit x (o % word_bits)) (z.kept (k * b.blocks * block_words + o / word_bits) (λ i j q. ⊎_elim (λ l. omega (arith, q, j, row_fits k b.rel b.blocks l)) (λ l. omega (arith, q, j, mul-le-mul_right b.blocks l, add-mul b.rel n b.blocks)) out))
-          ∙ sym (block_word ws (k * b.blocks) o);
+      kept = λ t o out q. block_word vs (t * b.blocks) o
+          ∙ ap (λ (x : ℕ). bit x (o % word_bits)) (part_out start m ws part long fits (t * b.blocks * block_words + o / word_bits) (⊎_elim (λ l. inl (omega (arith, row_fits t b.rel b.blocks l))) (λ l. inr (omega (arith, mul-le-mul_right b.blocks l, add-mul b.rel n b.blocks))) out))
+          ∙ sym (block_word ws (t * b.blocks) o);
     }
+  where
+    start : ℕ
+    start = b.rel * b.blocks * block_words
+
+    vs : List ℕ
+    vs = put_mid start m ws part
+
+    long : length part ≡ m
+    long = rw e (length-replicate m 0)
+
+    fits : start + m ≤ length ws
+    fits = omega (arith, room_words b room)
+
+    zero : (i : ℕ) → i < m → get_or vs (start + i) 0 ≡ 0
+    zero i l = part_in start m ws part long fits i l ∙ rw e (get_or-replicate m i 0 0 l)
 
 -- The identity.
 
@@ -120,27 +149,55 @@ module _ {n : ℕ} {b : Bases} where
 
 -- What two rows share, put into a set.
 
--- where the words of row r begin
-abbrev pub row_start : ℕ → ℕ → ℕ
-row_start k r = r * k * block_words
+-- vs is us with what the first n words of ps and of qs share put in
+pub record Gathering (us ps qs : List ℕ) (n : ℕ) (vs : List ℕ) : Type 0 where
+  done : (i : ℕ) → i < n → get_or vs i 0 ≡ bit_or (get_or us i 0) (bit_and (get_or ps i 0) (get_or qs i 0))
+  kept : (i : ℕ) → n ≤ i → get_or vs i 0 ≡ get_or us i 0
 
-abbrev pub gathered_word : List ℕ → List ℕ → ℕ → ℕ → ℕ → ℕ
-gathered_word set ws p q i = bit_or (get_or set i 0) (bit_and (get_or ws (p + i) 0) (get_or ws (q + i) 0))
+module _ {us ps qs : List ℕ} where
+  pub gathering_none : Gathering us ps qs 0 us
+  gathering_none = record { done = λ i l. absurd (omega arith); kept = λ i l. refl }
 
-pub gathering_word : {set : List ℕ} (ws : List ℕ) {vs : List ℕ} (p q : ℕ) {j : ℕ} → Filled (gathered_word set ws p q) 0 j set vs → gathered_word vs ws p q j ≡ gathered_word set ws p q j
-gathering_word {set} ws p q {j} z =
-    ap (λ (x : ℕ). bit_or x (bit_and (get_or ws (p + j) 0) (get_or ws (q + j) 0))) (z.kept j (λ i m e. omega arith))
+  pub gathering_more : {n : ℕ} {vs : List ℕ} → Gathering us ps qs n vs → n < length vs
+      → Gathering us ps qs (n + 1) (set vs n (bit_or (get_or vs n 0) (bit_and (get_or ps n 0) (get_or qs n 0))))
+  gathering_more {n} {vs} z l =
+      record {
+        done = λ i m. rw (z.kept n (omega arith)) (fill_by_more (λ i. bit_or (get_or us i 0) (bit_and (get_or ps i 0) (get_or qs i 0))) vs n 0 l z.done i m);
+        kept = λ i m. get_or-set_other vs n i _ 0 (λ e. omega arith) ∙ z.kept i (omega arith);
+      }
 
-pub gathered_of : {k : ℕ} {set ws vs : List ℕ} {r s : ℕ} → Filled (gathered_word set ws (row_start k r) (row_start k s)) 0 (k * block_words) set vs → Gathered k set ws r s vs
+-- the words of row r
+abbrev pub row_words : ℕ → List ℕ → ℕ → List ℕ
+row_words k ws r = take (k * block_words) (take (length ws - r * (k * block_words)) (drop (r * (k * block_words)) ws))
+
+pub gathered_of : {k j : ℕ} {us ws vs : List ℕ} {r s : ℕ} → k * block_words ≤ length us → (r + 1) * k * block_words ≤ length ws → (s + 1) * k * block_words ≤ length ws
+    → Gathering (take (k * block_words) us) (row_words k ws r) (row_words k ws s) j vs
+    → length vs ≡ length (take (k * block_words) us)
+    → length vs ≤ j
+    → Gathered k us ws r s (vs ++ post_of 0 (k * block_words) us)
 unfolding bit_at
-gathered_of {k} {set} {ws} {vs} {r} {s} z =
+gathered_of {k} {j} {us} {ws} {vs} {r} {s} fits p q z e m =
     record {
-      size = z.size;
-      bits = λ o l. ap (λ (x : ℕ). bit x (o % word_bits)) (ap (λ (i : ℕ). get_or vs i 0) (omega arith) ∙ z.done (o / word_bits) (omega arith))
+      size = search (rules, places);
+      bits = λ o l. ap (λ (x : ℕ). bit x (o % word_bits)) (word (o / word_bits) (omega arith))
           ∙ word_or _ _ (o % word_bits)
-          ∙ ap (λ (b : Bool). bit_at set o || b) (word_and _ _ (o % word_bits) ∙ ap₂ (λ (a b : Bool). a && b) (sym (block_word ws (r * k) o)) (sym (block_word ws (s * k) o)));
-      kept = λ o l. ap (λ (x : ℕ). bit x (o % word_bits)) (z.kept (o / word_bits) (λ i m q. omega arith));
+          ∙ ap (λ (b : Bool). bit_at us o || b) (word_and _ _ (o % word_bits) ∙ ap₂ (λ (a b : Bool). a && b) (row_cell r p o l) (row_cell s q o l));
+      kept = λ o l. ap (λ (x : ℕ). bit x (o % word_bits)) (search (rules, places));
     }
+  where
+    word : (i : ℕ) → i < k * block_words
+        → get_or (vs ++ post_of 0 (k * block_words) us) i 0 ≡ bit_or (get_or us i 0) (bit_and (get_or (row_words k ws r) i 0) (get_or (row_words k ws s) i 0))
+    word i l =
+        let n : i < length vs = omega (arith, e, fits, length-take (k * block_words) us) in
+        let here : get_or (vs ++ post_of 0 (k * block_words) us) i 0 ≡ get_or vs i 0 = search (rules, places) in
+        let old : get_or (take (k * block_words) us) i 0 ≡ get_or us i 0 = search (rules, places) in
+        here ∙ z.done i (omega arith) ∙ ap (λ (x : ℕ). bit_or x (bit_and (get_or (row_words k ws r) i 0) (get_or (row_words k ws s) i 0))) old
+
+    row_cell : (t : ℕ) → (t + 1) * k * block_words ≤ length ws → (o : ℕ) → o < k * block_bits → bit (get_or (row_words k ws t) (o / word_bits) 0) (o % word_bits) ≡ cell k ws t o
+    row_cell t n o l =
+        let m : t * (k * block_words) + k * block_words ≤ length ws = omega (arith, row_end t k (length ws) n, mul_assoc t k block_words) in
+        let here : get_or (row_words k ws t) (o / word_bits) 0 ≡ get_or ws (t * (k * block_words) + o / word_bits) 0 = search (rules, places) in
+        ap (λ (x : ℕ). bit x (o % word_bits)) (here ∙ ap (λ (i : ℕ). get_or ws i 0) (omega (arith, mul_assoc t k block_words))) ∙ sym (block_word ws (t * k) o)
 
 module _ {b : Bases} {ws : List ℕ} where
   pub shared_none : Shared 0 b ws (replicate set_words 0)
@@ -165,24 +222,6 @@ carries_kind : (w : List ℕ) (x : Step) (landings : List ℕ) (a : ℕ) (b : Ba
     → So (carries w x landings a b ws t o i)
     → kind_at w i ≡ x.kind
 carries_kind w x landings a b ws t o i h = eqb-true (kind_at w i) x.kind (and_left _ _ (and_left _ _ h))
-
-module _ {w : List ℕ} {e : Ends} {set : List ℕ} {b : Bases} where
-  pub followed_more : {i g c : ℕ} {ws vs : List ℕ} → g ≡ object_in w e.targets i → c ≡ object_in w e.origins i → So (bit_at set g)
-      → Merged b.blocks ws (b.rel + g) (b.spare + c) vs
-      → Followed w e set b ws i vs
-  followed_more {i} {g} {c} t-is o_is h m =
-      record {
-        size = m.size;
-        bits = λ k o l. m.bits k o l ∙ rw (← t-is, ← o_is, h);
-      }
-
-  -- the target is not in the set
-  pub followed_outside : {i g : ℕ} {ws : List ℕ} → g ≡ object_in w e.targets i → bit_at set g ≡ false → Followed w e set b ws i ws
-  followed_outside {i} {g} {ws} t-is h =
-      record {
-        size = refl;
-        bits = λ k o l. rw (← t-is, h) (sym (or-false (cell b.blocks ws k o)));
-      }
 
 module _ {w : List ℕ} {x : Step} {landings : List ℕ} {a : ℕ} {b : Bases} where
   pub stepped_none : {n from : ℕ} {ws vs : List ℕ} → n ≡ objects w → Cleared n b ws vs → KindParts w x.kind from from → Stepped w x landings a b vs from vs

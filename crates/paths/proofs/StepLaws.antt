@@ -1,13 +1,11 @@
 -- A step by the facts of its kind, from the end of a path backward: the set of the objects from which it leads into a set.
 use Prim.Native.Nat.{ℕ, ◌+◌, ◌^◌, ◌≤◌, ◌<◌}
-use mathlib.Core.Bool.{Bool, true, false, So, not, ◌&&◌, ◌||◌, or-false, and-false}
+use mathlib.Core.Bool.{Bool, true, false, So, not, ◌&&◌}
 use mathlib.Core.List.{List}
 use mathlib.Core.Path.{◌≡◌, refl, sym, ap₂, ◌∙◌}
 use native.Mathlib.Nat.{mod-eq_of_lt}
-use native.Mathlib.Decide.{ℕ_discrete}
 use native.Mathlib.Omega.{arith}
-use borrow.Author.Tests.{eq-eqb, ne_eqb, eqb-true}
-use lib.Dec.{eqb}
+use borrow.Author.Tests.{eq-eqb, eqb-true}
 use lib.ListN.{replicate}
 use Rattle.records.specs.Layout.{object_part, state_layout, entries, left_at, right_at, attribute_kinds}
 use Rattle.records.specs.Concept.{direction_of}
@@ -16,7 +14,7 @@ use Rattle.records.specs.StateRecord.{objects, kind_at, object_at, state_of}
 use Rattle.records.proofs.General.BoolLaws.{and_left}
 use Rattle.records.proofs.General.FiniteLaws.{any_more}
 use Rattle.records.proofs.FactLaws.{pair_iff, pair_of}
-use Rattle.index.specs.BitSet.{bit_at, Inserted}
+use Rattle.index.specs.BitSet.{bit_at}
 use Rattle.index.specs.Kinds.{KindParts}
 use Rattle.index.proofs.BitSetLaws.{zero_bits}
 use Rattle.index.proofs.KindLaws.{kind_before, kind_after, kind_within}
@@ -124,23 +122,6 @@ module _ {w : List ℕ} {x : Step} {landings : List ℕ} {a : ℕ} {into : List 
         bits = λ o j. z.bits o j
             ∙ sym (kind_after w (leads_into w x landings a into o) (leads_kind w x landings a into o) p l m);
       }
-
--- A fact whose target is in a set puts its origin in.
-module _ {w : List ℕ} {e : Ends} {into : List ℕ} {i c : ℕ} {ws : List ℕ} (o_is : c ≡ object_in w e.origins i) where
-  pub led_on : {g : ℕ} {vs : List ℕ} → g ≡ object_in w e.targets i → So (bit_at into g) → Inserted ws c vs → Led w e into ws i vs
-  led_on t-is h n = record { size = n.size; bits = λ o. n.bits o ∙ rw (← t-is, ← o_is, h) }
-
-  pub led_off : {g : ℕ} → g ≡ object_in w e.targets i → bit_at into g ≡ false → Led w e into ws i ws
-  led_off t-is h = record { size = refl; bits = λ o. rw (← t-is, h) (sym (or-false (bit_at ws o))) }
-
-  -- what is in already stays
-  pub led_already : So (bit_at ws c) → Led w e into ws i ws
-  led_already h = record { size = refl; bits = λ o. pick o (ℕ_discrete o c) }
-    where
-      pick : (o : ℕ) → Dec (o ≡ c) → bit_at ws o ≡ (bit_at ws o || bit_at into (object_in w e.targets i) && eqb o (object_in w e.origins i))
-      pick o (yes q) = rw (q, h)
-      pick o (no n) =
-          rw (← o_is, ne_eqb o c n, and-false (bit_at into (object_in w e.targets i))) (sym (or-false (bit_at ws o)))
 
 -- A fact leads a step from one end of its pair to the other.
 

@@ -2,20 +2,20 @@
 use Prim.Native.Nat.{ℕ, ◌+◌, ◌^◌, ◌≤◌, ◌<◌}
 use mathlib.Core.Bool.{Bool, true, false, So, cond, false≢true}
 use mathlib.Core.List.{List}
-use mathlib.Core.Path.{◌≡◌, refl, ap}
+use mathlib.Core.Path.{◌≡◌, refl}
 use native.Mathlib.Omega.{arith}
 use native.Mathlib.Nat.{le_refl}
 use borrow.Author.Tests.{ltb-true}
 use lib.Dec.{eqb}
 use lib.ListN.{get_or}
-use mathlib.Core.Logic.{◌⊎◌, ⊎_elim}
+use Rattle.std.specs.Prelude.{Some, is_some}
 use mir.Syntax.{w16}
 use mir.Val.{Fits}
 use Rattle.records.specs.declared.schema.Signature.{Signature}
 use Rattle.records.specs.declared.token.Token.{Token}
 use Rattle.records.specs.declared.token.Token.TheVariants.{Class, Everything, Constant, Both, Empty, Forward, Backward, Reached, Common, Mark}
 use Rattle.records.specs.Concept.{direction_of}
-use Rattle.records.specs.Layout.{concept_layout, entries, left_at, right_at, fact_kinds}
+use Rattle.records.specs.Layout.{concept_layout, entries, left_at, right_at}
 use Rattle.records.specs.ConceptRecord.{token_of, token_at}
 use Rattle.records.specs.ConceptRefusal.{is_step}
 use Rattle.records.specs.Marks.{allows}
@@ -67,24 +67,8 @@ constant_declared {s} {w} ok i l {a} is = ltb-true a s.constants (rw is at (toke
 pub mark_allowed : {s : Signature} {w v : List ℕ} → Evaluable s w v → (i : ℕ) → i < entries concept_layout w → {k : ℕ} → token_at w i ≡ Mark k → So (allows s k)
 mark_allowed {s} {w} ok i l is = rw is at (token_suits s w ok.tokens i l)
 
--- the token is no step
-abbrev pub IsNoStep : Token → Type 0
-IsNoStep t =
-    ((A : ℕ) × (t ≡ Class A))
-    ⊎ ((t ≡ Everything) ⊎ (((a : ℕ) × (t ≡ Constant a)) ⊎ ((t ≡ Both) ⊎ ((t ≡ Empty) ⊎ ((t ≡ Reached) ⊎ ((t ≡ Common) ⊎ ((k : ℕ) × (t ≡ Mark k))))))))
-
-pub no_step : (t : Token) → IsNoStep t → step_of t ≡ record { kind = fact_kinds; backward = false }
-no_step t =
-    ⊎_elim (λ z. ap step_of z.1)
-    (⊎_elim (λ q. ap step_of q)
-    (⊎_elim (λ z. ap step_of z.1)
-    (⊎_elim (λ q. ap step_of q)
-    (⊎_elim (λ q. ap step_of q)
-    (⊎_elim (λ q. ap step_of q)
-    (⊎_elim (λ q. ap step_of q) (λ z. ap step_of z.1)))))))
-
 -- a step goes along an attribute, one way or the other
-pub step_along : (t : Token) → So (is_step t) → (back : Bool) × (P : ℕ) × (t ≡ step_token (direction_of back) P) × (step_of t ≡ along back P)
+pub step_along : (t : Token) → So (is_step t) → (back : Bool) × (P : ℕ) × (t ≡ step_token (direction_of back) P) × (step_of t ≡ Some (along back P))
 step_along (Class A) h = absurd (false≢true h)
 step_along Everything h = absurd (false≢true h)
 step_along (Constant a) h = absurd (false≢true h)
@@ -95,3 +79,16 @@ step_along (Backward P) h = (true, P, refl, refl)
 step_along Reached h = absurd (false≢true h)
 step_along Common h = absurd (false≢true h)
 step_along (Mark k) h = absurd (false≢true h)
+
+-- a token has a step just where it is one
+pub step_found : (t : Token) → is_step t ≡ is_some (step_of t)
+step_found (Class A) = refl
+step_found Everything = refl
+step_found (Constant a) = refl
+step_found Both = refl
+step_found Empty = refl
+step_found (Forward P) = refl
+step_found (Backward P) = refl
+step_found Reached = refl
+step_found Common = refl
+step_found (Mark k) = refl

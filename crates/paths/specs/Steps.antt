@@ -1,9 +1,9 @@
 -- A step of a path by the facts of its kind, and the set of the objects from which it leads into a set.
-use Rattle.std.specs.Prelude.{ℕ, ◌+◌, ◌%◌, ◌^◌, ◌≤◌, ◌<◌, Bool, true, false, cond, not, ◌&&◌, ◌||◌, List, ◌≡◌, eqb, length, get_or}
+use Rattle.std.specs.Prelude.{ℕ, ◌+◌, ◌%◌, ◌^◌, ◌≤◌, ◌<◌, Bool, true, false, Option, Some, None, cond, not, ◌&&◌, ◌||◌, List, ◌≡◌, eqb, length, get_or}
 use Rattle.records.specs.declared.token.Token.{Token}
 use Rattle.records.specs.declared.token.Token.TheVariants.{Class, Everything, Constant, Both, Empty, Forward, Backward, Reached, Common, Mark}
 use Rattle.records.specs.Finite.{any}
-use Rattle.records.specs.Layout.{object_part, state_layout, entries, right_at, attribute_kinds, fact_kinds, max_objects, max_facts}
+use Rattle.records.specs.Layout.{object_part, state_layout, entries, right_at, attribute_kinds, max_objects, max_facts}
 use Rattle.records.specs.StateRecord.{objects, kind_at, object_at}
 use Rattle.index.specs.BitSet.{bit_at}
 use Rattle.index.specs.Kinds.{KindsRise}
@@ -17,17 +17,17 @@ abbrev pub along : Bool → ℕ → Step
 along back P = record { kind = attribute_kinds + P; backward = back }
 
 -- the step of a token; other tokens are no steps
-abbrev pub step_of : Token → Step
-step_of (Class A) = record { kind = fact_kinds; backward = false }
-step_of Everything = record { kind = fact_kinds; backward = false }
-step_of (Constant a) = record { kind = fact_kinds; backward = false }
-step_of Both = record { kind = fact_kinds; backward = false }
-step_of Empty = record { kind = fact_kinds; backward = false }
-step_of (Forward P) = along false P
-step_of (Backward P) = along true P
-step_of Reached = record { kind = fact_kinds; backward = false }
-step_of Common = record { kind = fact_kinds; backward = false }
-step_of (Mark k) = record { kind = fact_kinds; backward = false }
+abbrev pub step_of : Token → Option Step
+step_of (Class A) = None
+step_of Everything = None
+step_of (Constant a) = None
+step_of Both = None
+step_of Empty = None
+step_of (Forward P) = Some (along false P)
+step_of (Backward P) = Some (along true P)
+step_of Reached = None
+step_of Common = None
+step_of (Mark k) = None
 
 -- the first or the second object of the pair that fact i is
 abbrev pub end_at : List ℕ → Bool → ℕ → ℕ

@@ -22,11 +22,10 @@ fn gather(out: &mut [u64; SET_WORDS], rows: &[u64], r: usize, s: usize, blocks: 
     ensures { Gathered blocks out.old rows.now r s out.new }
 {
     let words = blocks * BLOCK_WORDS;
-    let first = r * blocks * BLOCK_WORDS;
-    let second = s * blocks * BLOCK_WORDS;
-    for j in 0..words {
-        let shared = rows[first + j] & rows[second + j];
-        out[j] = out[j] | shared;
+    let first = &rows[r * words..][..words];
+    let second = &rows[s * words..][..words];
+    for (j, word) in out[..words].iter_mut().enumerate() {
+        *word |= first[j] & second[j];
     }
 }
 
@@ -67,16 +66,8 @@ pub fn meeting(
         blocks,
     };
     relate(words, state, landings, first, rows, ps);
-    let qs = Bases {
-        rel: n,
-        spare: 2 * n,
-        blocks,
-    };
+    let qs = Bases { rel: n, ..ps };
     relate(words, state, landings, last, rows, qs);
-    let both = Bases {
-        rel: 0,
-        spare: n,
-        blocks,
-    };
+    let both = Bases { spare: n, ..ps };
     shared(rows, both, n)
 }

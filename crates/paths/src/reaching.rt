@@ -13,7 +13,6 @@ use index::bits::{has, insert};
 use index::kinds::first_of_kind;
 use reading::start_of;
 use records::state::objects;
-use records::token::{is_step, token_at};
 use rows::sets::{everything, shared_row};
 use rows::sizes::SET_WORDS;
 
@@ -66,9 +65,8 @@ pub fn reaching(words: &[u16], state: &[u16], landings: &[u64], end: usize) -> [
 {
     let mut set = everything(objects(state));
     let mut at = end - 1;
-    while is_step(token_at(words, at)) {
-        let before = origins(state, step_at(words, at), landings, at, &set);
-        set = before;
+    while let Some(step) = step_at(words, at) {
+        set = origins(state, step, landings, at, &set);
         at = start_of(words, at) - 1;
     }
     set

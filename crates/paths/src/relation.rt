@@ -14,7 +14,6 @@ use index::bits::{has, insert};
 use index::kinds::first_of_kind;
 use reading::start_of;
 use records::state::objects;
-use records::token::{is_step, token_at};
 use rows::blocks::merge;
 use rows::sets::shared_row;
 use rows::sizes::{BLOCK_BITS, BLOCK_WORDS, SET_WORDS};
@@ -34,10 +33,7 @@ fn clear(rows: &mut [u64], bases: Bases, n: usize)
 {
     let from = bases.rel * bases.blocks * BLOCK_WORDS;
     let count = n * bases.blocks * BLOCK_WORDS;
-    for i in 0..count {
-        let k = from + i;
-        rows[k] = 0;
-    }
+    rows[from..from + count].fill(0);
 }
 
 // Each object below `n` to itself.
@@ -106,14 +102,14 @@ pub fn relate(
     ensures { Related (state_of state.now) (path_at words.now end) bases rows.old rows.new }
 {
     let at = end - 1;
-    if is_step(token_at(words, at)) {
+    if let Some(step) = step_at(words, at) {
         let before = Bases {
             rel: bases.spare,
             spare: bases.rel,
-            blocks: bases.blocks,
+            ..bases
         };
         relate(words, state, landings, start_of(words, at), rows, before);
-        advance(state, step_at(words, at), landings, at, rows, bases);
+        advance(state, step, landings, at, rows, bases);
     } else {
         identity(rows, bases, objects(state));
     }

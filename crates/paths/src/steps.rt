@@ -4,7 +4,7 @@ ghost use Rattle.records.specs.ConceptRecord.{token_at};
 ghost use Rattle.paths.specs.Steps.{step_of, ends_of, object_in};
 
 use records::layout::word;
-use records::state::{ATTRIBUTE_KINDS, FACT_KINDS, OBJECT_PART, facts, state_layout};
+use records::state::{ATTRIBUTE_KINDS, OBJECT_PART, facts, state_layout};
 use records::token::{Token, token_at};
 
 // The facts that a step follows, and which way.
@@ -14,31 +14,21 @@ pub struct Step {
     pub backward: bool,
 }
 
-// The step whose token stands at `at`. Other tokens are no steps: a kind that no fact has.
-pub fn step_at(words: &[u16], at: usize) -> Step
+// The step whose token stands at `at`; other tokens are no steps.
+pub fn step_at(words: &[u16], at: usize) -> Option<Step>
     requires { at < 2 ^ 16 }
     ensures { result ≡ step_of (token_at words.now at) }
 {
     match token_at(words, at) {
-        Token::Forward(p) => Step {
+        Token::Forward(p) => Some(Step {
             kind: ATTRIBUTE_KINDS + p,
             backward: false,
-        },
-        Token::Backward(p) => Step {
+        }),
+        Token::Backward(p) => Some(Step {
             kind: ATTRIBUTE_KINDS + p,
             backward: true,
-        },
-        Token::Class(_)
-        | Token::Everything
-        | Token::Constant(_)
-        | Token::Both
-        | Token::Empty
-        | Token::Reached
-        | Token::Common
-        | Token::Mark(_) => Step {
-            kind: FACT_KINDS,
-            backward: false,
-        },
+        }),
+        _ => None,
     }
 }
 

@@ -7,6 +7,7 @@
 -- Update (a function changed at one argument).
 pub mod BoolLaws
 pub mod FiniteLaws
+pub mod RangeLaws
 pub mod CountLaws
 pub mod SumLaws
 pub mod TableLaws

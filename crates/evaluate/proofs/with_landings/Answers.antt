@@ -1,6 +1,10 @@
--- The choice by the concept's tokens and the number of objects.
-use mathlib.Core.Path.{sym, ◌∙◌}
+-- An accepted state has no more objects than the most (objects_room).
+use Rattle.paths.proofs.FactLaws.{objects_room}
+use Rattle.paths.proofs.RoomLaws.{relation_most}
 use Rattle.evaluate.proofs.with_landings.Goals as goal
+use native.Mathlib.Omega.{arith}
 
-pub without_rows-requires : goal.without_rows-requires
-without_rows-requires c = let ok = c.requires.evaluable in let landings = c.requires.set_words_in_bounds in record { evaluable = ok; set_words_in_bounds = landings; concept_value = sym c.has_common.ensures ∙ c.if-not-has_common.true }
+pub with_rows-requires-else-n-le-SOME_OBJECTS-clause-relations :
+    goal.with_rows-requires-else-n-le-SOME_OBJECTS-clause-relations
+with_rows-requires-else-n-le-SOME_OBJECTS-clause-relations c =
+    record { room = λ t. omega (arith, relation_most (objects_room c.requires.evaluable)); few = omega arith }

@@ -23,9 +23,6 @@ both-concept-first-requires t c =
     let e = c.concept-last.ensures in
     (omega (arith, c.decreases, e.start, start_le c.args.words.now c.args.at 1), (place_below c.requires.place e.landings.size e.size e.start, rw e.start r.3))
 
-pub both-shared_row-requires : goal.both-shared_row-requires
-both-shared_row-requires t c = record { set_words_in_bounds = omega (arith, c.concept-first.ensures.selection.size); set_words_in_bounds_2 = omega (arith, c.concept-last.ensures.selection.size) }
-
 pub both-returns : goal.both-returns
 both-returns t c =
     let r = concept_reads c.args.words.now c.args.at _ c.requires.has_concept c.requires.at_value in

@@ -5,21 +5,6 @@ use mathlib.Core.Path.{refl, ◌∙◌}
 use native.Mathlib.Omega.{arith}
 use Rattle.paths.proofs.reaching.origins.Goals as goal
 
-pub first_of_kind-from-requires : goal.first_of_kind-from-requires
-first_of_kind-from-requires c = c.requires.followable.rise
-
-pub overflow_add-step : goal.overflow_add-step
-overflow_add-step c = omega (arith, c.requires.followable.kind)
-
-pub first_of_kind-to-requires : goal.first_of_kind-to-requires
-first_of_kind-to-requires c = c.requires.followable.rise
-
-pub shared_row-row-requires : goal.shared_row-row-requires
-shared_row-row-requires c = record { set_words_in_bounds = c.requires.set_words_in_bounds; set_words_in_bounds_2 = c.requires.set_words_in_bounds }
-
-pub shared_row-both-requires : goal.shared_row-both-requires
-shared_row-both-requires c = record { set_words_in_bounds = omega (arith, c.shared_row-row.ensures.size); set_words_in_bounds_2 = omega (arith, c.requires.into_len) }
-
 pub loop-i-init : goal.loop-i-init
 loop-i-init c = (omega arith, c.first_of_kind-from.ensures.within, refl, λ x f. origins_none f.first)
 

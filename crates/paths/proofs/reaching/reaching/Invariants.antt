@@ -7,8 +7,8 @@ use Rattle.records.specs.StateRecord.{state_of}
 use Prim.Native.Nat.{suc}
 use Rattle.paths.proofs.reaching.reaching.Given as goal
 
-abbrev pub invariant-loop-set : goal.invariant-loop-set
-invariant-loop-set l = Walk l.words l.state l.landings (suc l.at) × Reaching (state_of l.state) (path_at l.words l.end) (path_at l.words (suc l.at)) l.set
+abbrev pub invariant-loop-step : goal.invariant-loop-step
+invariant-loop-step l = Walk l.words l.state l.landings (suc l.at) × Reaching (state_of l.state) (path_at l.words l.end) (path_at l.words (suc l.at)) l.set
 
-abbrev pub decreases-loop-set : goal.decreases-loop-set
-decreases-loop-set l = l.at
+abbrev pub decreases-loop-step : goal.decreases-loop-step
+decreases-loop-step l = l.at

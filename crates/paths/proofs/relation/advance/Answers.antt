@@ -7,21 +7,6 @@ use mathlib.Core.Path.{refl, ◌∙◌}
 use native.Mathlib.Omega.{arith}
 use Rattle.paths.proofs.relation.advance.Goals as goal
 
-pub clear-requires : goal.clear-requires
-clear-requires c = rw c.objects.ensures.value c.requires.room
-
-pub first_of_kind-from-requires : goal.first_of_kind-from-requires
-first_of_kind-from-requires c = c.requires.followable.rise
-
-pub overflow_add-step : goal.overflow_add-step
-overflow_add-step c = omega (arith, c.requires.followable.kind)
-
-pub first_of_kind-to-requires : goal.first_of_kind-to-requires
-first_of_kind-to-requires c = c.requires.followable.rise
-
-pub shared_row-set-requires : goal.shared_row-set-requires
-shared_row-set-requires c = record { set_words_in_bounds = c.requires.set_words_in_bounds; set_words_in_bounds_2 = c.requires.set_words_in_bounds }
-
 pub loop-i-init : goal.loop-i-init
 loop-i-init c =
     let b = c.args.bases in
