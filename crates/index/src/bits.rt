@@ -8,18 +8,13 @@ pub const WORD_BITS: usize = 64;
 pub fn has(ws: &[u64], b: usize) -> bool
     ensures { result ≡ bit_at ws.now b }
 {
-    let i = b / WORD_BITS;
-    if i < ws.len() {
-        (ws[i] >> (b % WORD_BITS)) % 2 == 1
-    } else {
-        false
-    }
+    ws.get(b / WORD_BITS)
+        .is_some_and(|word| (*word >> (b % WORD_BITS)) % 2 == 1)
 }
 
 pub fn insert(ws: &mut [u64], b: usize)
     requires { b / word_bits < length ws.old }
     ensures { Inserted ws.old b ws.new }
 {
-    let i = b / WORD_BITS;
-    ws[i] = ws[i] | (1 << (b % WORD_BITS));
+    ws[b / WORD_BITS] |= 1 << (b % WORD_BITS);
 }

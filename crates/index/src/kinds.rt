@@ -4,7 +4,8 @@ ghost use Rattle.index.specs.Kinds.{KindsRise, KindParts};
 
 use records::state::{facts, kind_at};
 
-// The place of the first fact of this kind or a higher one, or the number of facts.
+// The place of the first fact of this kind or a higher one, or the number of facts. It halves by hand, since no slice need
+// hold all left words: a record can have fewer words than its count says, and those past the end are read as 0.
 pub fn first_of_kind(state: &[u16], kind: usize) -> usize
     requires { KindsRise state.now }
     ensures { KindParts state.now kind result result }

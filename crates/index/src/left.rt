@@ -11,7 +11,8 @@ pub const TABLE_BITS: usize = FACT_KINDS * OBJECT_PART;
 pub const TABLE_WORDS: usize = TABLE_BITS / WORD_BITS;
 
 // One pass over the left words. A left word past the table is of no kind that there is, and is passed over: so any
-// words will do, and an index of an accepted state has all its facts.
+// words will do, and an index of an accepted state has all its facts. The loop goes by the facts' numbers and not over a
+// slice, since a left word past the end of the words counts as 0.
 pub fn index(words: &[u16]) -> [u64; TABLE_WORDS]
     ensures { Indexes words.now result }
 {

@@ -26,29 +26,18 @@ fn mark_of(token: Token) -> u32
 pub fn used(words: &[u16]) -> u32
     ensures { result ≡ used_marks words.now }
 {
-    let n = tokens(words);
-    let mut marks = 0;
-    for i in 0..n {
-        marks = marks | mark_of(token_at(words, i));
-    }
-    marks
+    (0..tokens(words)).fold(0, |marks, i| marks | mark_of(token_at(words, i)))
 }
 
 // How many items a token takes from the pile.
+#[tactic(auto, unfolding(records::specs::Helpers::Reading::takes))]
 fn takes(token: Token) -> usize
     ensures { result ≡ takes_of token }
 {
     match token {
-        Token::Class(_) => 0,
-        Token::Everything => 0,
-        Token::Constant(_) => 0,
-        Token::Both => 2,
-        Token::Empty => 0,
-        Token::Forward(_) => 2,
-        Token::Backward(_) => 2,
+        Token::Both | Token::Forward(_) | Token::Backward(_) | Token::Common => 2,
         Token::Reached => 1,
-        Token::Common => 2,
-        Token::Mark(_) => 0,
+        _ => 0,
     }
 }
 
@@ -59,7 +48,7 @@ pub fn start_of(words: &[u16], end: usize) -> usize
 {
     let mut at = end;
     let mut wanted = 1;
-    while (0 < at) & (0 < wanted) {
+    while 0 < at && 0 < wanted {
         at -= 1;
         wanted = takes(token_at(words, at)) + wanted - 1;
     }
@@ -71,9 +60,5 @@ pub fn step_number(words: &[u16], end: usize) -> usize
     requires { end < 2 ^ 16 }
     ensures { result ≡ step_number words.now end }
 {
-    let mut number = 0;
-    for i in 0..end {
-        number += is_step(token_at(words, i)) as usize;
-    }
-    number
+    (0..end).filter(|i| is_step(token_at(words, *i))).count()
 }

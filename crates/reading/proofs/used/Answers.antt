@@ -1,24 +1,12 @@
 -- The marks of the tokens passed.
-use native.Mathlib.Omega.{arith}
-use native.Mathlib.Nat.{le_antisymm}
-use native.Mathlib.Numerals.{add-one}
-use mathlib.Core.Path.{sym, ap, ◌∙◌}
+use Rattle.std.proofs.Common.{rules}
+use mathlib.Core.Path.{ap, ◌∙◌}
 use Rattle.records.specs.Marks.{mark_used, used_marks}
-use Rattle.records.proofs.MarkLaws.{marks_before, marks_none, marks_more}
+use Rattle.records.proofs.General.RangeLaws.{fold_below}
+use Rattle.records.proofs.MarkLaws.{marks_before}
+use Rattle.reading.proofs.ReadingScanLaws.{marks_upto}
 use Rattle.reading.proofs.used.Goals as goal
-
-pub loop-i-init : goal.loop-i-init
-loop-i-init c = (omega arith, sym (marks_none _))
-
-pub token_at-requires : goal.token_at-requires
-token_at-requires c = omega (arith, c.tokens-n.ensures.word)
-
-pub loop-i-preserved : goal.loop-i-preserved
-loop-i-preserved c = (
-  omega arith,
-  rw (c.mark_of-marks.ensures, c.token_at.ensures, add-one) (marks_more _ _ c.loop-i.invariant.1),
-)
 
 pub returns : goal.returns
 unfolding used_marks mark_used
-returns c = c.loop-i.invariant.1 ∙ ap (marks_before _) (le_antisymm c.loop-i.invariant.0 c.loop-i-test.false ∙ c.tokens-n.ensures.value)
+returns c = fold_below c.fold.ensures.ran (λ m i n q k. search rules) ∙ marks_upto c.args.words.now c.tokens.result ∙ ap (marks_before c.args.words.now) c.tokens.ensures.value
