@@ -41,7 +41,7 @@ fn values_by(set: u32, attribute: usize, rule: Axiom) -> u32
     }
 }
 
-// All that the axioms add, each what `by` says of it.
+// All that the axioms add, each what `by` says of it. No fold: its closure would have to state again what `by` requires.
 fn collect<F: Fn(Axiom) -> u32>(schema: &[u16], by: F) -> u32
     requires accepted { AcceptedSchema schema.now }
     requires asked { (rule : AnAxiom) → AxiomInRange rule → F.pre by rule }
