@@ -18,10 +18,8 @@ fn raise_by(table: &[u32; MAX_ATTRIBUTES], set: u32, rule: Axiom) -> u32
 {
     match rule {
         Axiom::Subclass(a, b) => place_if(has(set, a), b),
-        Axiom::Typing(_, _, _) => 0,
-        Axiom::Necessary(a, p) => if has(set, a) { table[p] } else { 0 },
-        Axiom::Single(_, _) => 0,
-        Axiom::Relates(_, _, _) => 0,
+        Axiom::Necessary(a, p) if has(set, a) => table[p],
+        _ => 0,
     }
 }
 
@@ -30,12 +28,10 @@ pub fn raise(schema: &[u16], table: &[u32; MAX_ATTRIBUTES], set: u32) -> u32
     requires { AcceptedSchema schema.now × DomainTable schema.now table.now }
     ensures { result ≡ raise_in (schema_of schema.now) set }
 {
-    let n = axioms(schema);
-    let mut raised = set;
-    for i in 0..n {
-        raised |= raise_by(table, raised, axiom_at(schema, i));
-    }
-    raised
+    (0..axioms(schema)).fold(
+        set,
+        |raised, i| raised | raise_by(table, raised, axiom_at(schema, i)),
+    )
 }
 
 // Rounds until the set stands still. It only grows, so that there is an end.

@@ -1,6 +1,7 @@
-// What the axioms add to a class set. Each question has a loop of its own, which passes the axioms of other kinds by one test:
-// a loop for all of them would find out at each axiom anew what is asked. The schema is an accepted record.
-ghost use Rattle.std.specs.Prelude.{◌≡◌};
+// What the axioms add to a class set. Each question is a loop of its own once it is compiled, which passes the axioms of other
+// kinds by one test: a loop for all of them would find out at each axiom anew what is asked. The schema is an accepted record.
+ghost use Rattle.std.specs.Prelude.{◌≡◌, ℕ};
+ghost use Rattle.records.specs.declared.schema.Axiom.{Axiom as AnAxiom};
 ghost use Rattle.records.specs.SchemaRecord.{schema_of};
 ghost use Rattle.records.specs.SchemaRefusal.{AcceptedSchema};
 ghost use Rattle.chase.specs.Axioms.{needs_by, single_by, values_by, collect as collect_in, values as values_in};
@@ -14,11 +15,8 @@ fn needs_by(attribute: usize, rule: Axiom) -> u32
     ensures { result ≡ needs_by attribute rule }
 {
     match rule {
-        Axiom::Subclass(_, _) => 0,
-        Axiom::Typing(_, _, _) => 0,
         Axiom::Necessary(a, p) => place_if(p == attribute, a),
-        Axiom::Single(_, _) => 0,
-        Axiom::Relates(_, _, _) => 0,
+        _ => 0,
     }
 }
 
@@ -27,11 +25,8 @@ fn single_by(attribute: usize, rule: Axiom) -> u32
     ensures { result ≡ single_by attribute rule }
 {
     match rule {
-        Axiom::Subclass(_, _) => 0,
-        Axiom::Typing(_, _, _) => 0,
-        Axiom::Necessary(_, _) => 0,
         Axiom::Single(a, p) => place_if(p == attribute, a),
-        Axiom::Relates(_, _, _) => 0,
+        _ => 0,
     }
 }
 
@@ -40,12 +35,23 @@ fn values_by(set: u32, attribute: usize, rule: Axiom) -> u32
     ensures { result ≡ values_by set attribute rule }
 {
     match rule {
-        Axiom::Subclass(_, _) => 0,
         Axiom::Typing(a, p, b) => place_if((p == attribute) & has(set, a), b),
-        Axiom::Necessary(_, _) => 0,
-        Axiom::Single(_, _) => 0,
         Axiom::Relates(p, _, b) => place_if(p == attribute, b),
+        _ => 0,
     }
+}
+
+// All that the axioms add, each what `by` says of it. No fold: its closure would have to state again what `by` requires.
+fn collect<F: Fn(Axiom) -> u32>(schema: &[u16], by: F) -> u32
+    requires accepted { AcceptedSchema schema.now }
+    requires asked { (rule : AnAxiom) → AxiomInRange rule → F.pre by rule }
+    ensures { (f : AnAxiom → ℕ) → ((rule : AnAxiom) (c : ℕ) → F.post by rule c → c ≡ f rule) → result ≡ collect_in (schema_of schema.now) f }
+{
+    let mut found = 0;
+    for i in 0..axioms(schema) {
+        found |= by(axiom_at(schema, i));
+    }
+    found
 }
 
 // The classes whose objects have a value of the attribute.
@@ -53,12 +59,7 @@ pub fn needs_mask(schema: &[u16], attribute: usize) -> u32
     requires { AcceptedSchema schema.now }
     ensures { result ≡ collect_in (schema_of schema.now) (needs_by attribute) }
 {
-    let n = axioms(schema);
-    let mut mask = 0;
-    for i in 0..n {
-        mask |= needs_by(attribute, axiom_at(schema, i));
-    }
-    mask
+    collect(schema, |rule| needs_by(attribute, rule))
 }
 
 // The classes whose objects have at most one value of the attribute.
@@ -66,12 +67,7 @@ pub fn single_mask(schema: &[u16], attribute: usize) -> u32
     requires { AcceptedSchema schema.now }
     ensures { result ≡ collect_in (schema_of schema.now) (single_by attribute) }
 {
-    let n = axioms(schema);
-    let mut mask = 0;
-    for i in 0..n {
-        mask |= single_by(attribute, axiom_at(schema, i));
-    }
-    mask
+    collect(schema, |rule| single_by(attribute, rule))
 }
 
 // The classes of a value of the attribute at an object with the classes of `set`.
@@ -79,10 +75,5 @@ pub fn values(schema: &[u16], set: u32, attribute: usize) -> u32
     requires { AcceptedSchema schema.now }
     ensures { result ≡ values_in (schema_of schema.now) set attribute }
 {
-    let n = axioms(schema);
-    let mut found = 0;
-    for i in 0..n {
-        found |= values_by(set, attribute, axiom_at(schema, i));
-    }
-    found
+    collect(schema, |rule| values_by(set, attribute, rule))
 }

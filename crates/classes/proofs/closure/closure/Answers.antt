@@ -1,22 +1,10 @@
 -- A round changes nothing of the closure, and the closure of a set that stands still is that set.
-use mathlib.Core.Path.{refl, sym, ◌∙◌}
+use mathlib.Core.Path.{sym, ◌∙◌}
 use native.Mathlib.Omega.{arith}
 use Rattle.records.specs.SchemaRecord.{schema_of}
 use Rattle.chase.proofs.ClosureLaws.{closure_next, closure_stop}
 use Rattle.classes.proofs.SchemaLaws.{axioms_declared, raise_declared, raise_rises}
 use Rattle.classes.proofs.closure.closure.Goals as goal
-
-pub domains-table-requires : goal.domains-table-requires
-domains-table-requires c = c.requires.0
-
-pub raise-next-requires : goal.raise-next-requires
-raise-next-requires c = (c.requires.0, c.domains-table.ensures)
-
-pub loop-next-init : goal.loop-next-init
-loop-next-init c = (c.raise-next.ensures, refl, c.requires.1)
-
-pub raise-next-requires-in-loop-next : goal.raise-next-requires-in-loop-next
-raise-next-requires-in-loop-next c = (c.requires.0, c.domains-table.ensures)
 
 pub loop-next-smaller : goal.loop-next-smaller
 loop-next-smaller c =

@@ -5,9 +5,6 @@ use Rattle.classes.specs.Sets.{DeclaredSet}
 use Rattle.classes.proofs.SchemaLaws.{values_declared}
 use Rattle.classes.proofs.closure.image.Goals as goal
 
-pub values-requires : goal.values-requires
-values-requires c = c.requires
-
 pub closure-requires : goal.closure-requires
 closure-requires c =
     (c.requires, subst (DeclaredSet _) (sym c.values.ensures) (values_declared _ c.requires _ _))

@@ -1,26 +1,34 @@
 -- The table of the axioms passed grows by the next axiom's entry (Filled of DomainLaws).
-use mathlib.Core.Path.{refl, sym, ap, subst, ◌∙◌}
-use native.Mathlib.Nat.{le_antisymm}
-use native.Mathlib.Omega.{arith}
+use Rattle.std.proofs.Common.{refl, arith}
 use Rattle.records.specs.Layout.{max_attributes}
-use Rattle.records.specs.Helpers.InRange.{AxiomInRange}
-use Rattle.classes.specs.Domains.{entry_of}
-use Rattle.classes.proofs.DomainLaws.{filled_none, filled_more, filled_all}
-use Rattle.records.proofs.AcceptedLaws.{axiom_in_range}
+use Rattle.classes.proofs.DomainLaws.{filled_none, filled_related, filled_other, filled_all, related_in_range}
 use Rattle.classes.proofs.domains.domains.Goals as goal
+use Rattle.classes.proofs.domains.domains.Goals.{in-Relates, in_default}
 
 pub loop-i-init : goal.loop-i-init
-loop-i-init c = (omega arith, filled_none _ max_attributes refl)
+loop-i-init c = filled_none _ max_attributes refl
 
-pub domain_entry-e-requires : goal.domain_entry-e-requires
-domain_entry-e-requires c = subst AxiomInRange (sym c.axiom_at.ensures) (axiom_in_range _ c.requires _ (omega arith))
+pub place-requires : goal.place-requires
+place-requires c = (related_in_range _ c.requires _ _ _ _ _ c.axiom_at.ensures c.in-Relates.is (omega arith)).1
+
+pub offset_bounds-table-p : goal.offset_bounds-table-p
+offset_bounds-table-p c =
+    omega (arith, related_in_range _ c.requires _ _ _ _ _ c.axiom_at.ensures c.in-Relates.is (omega arith))
+
+pub bounds-table-p : goal.bounds-table-p
+bounds-table-p c = (related_in_range _ c.requires _ _ _ _ _ c.axiom_at.ensures c.in-Relates.is (omega arith)).0
+
+pub bounds-table-p-in-Relates : goal.bounds-table-p-in-Relates
+bounds-table-p-in-Relates c = (related_in_range _ c.requires _ _ _ _ _ c.axiom_at.ensures c.in-Relates.is (omega arith)).0
 
 pub loop-i-preserved : goal.loop-i-preserved
-loop-i-preserved c = (
-  omega arith,
-  filled_more _ _ _ _ (c.domain_entry-e.ensures.0 ∙ ap entry_of c.axiom_at.ensures) c.domain_entry-e.ensures.1
-      c.loop-i.invariant.1,
-)
+loop-i-preserved c =
+    elim c.match-axiom_at.branch [
+      | in-Relates w ↦ rw w.table-is
+          (filled_related _ _ _ _ c.axiom_at.ensures c.loop-i.invariant _ _ _ _ w.in-Relates.is
+          (related_in_range _ c.requires _ _ _ _ _ c.axiom_at.ensures w.in-Relates.is (omega arith)).0 (rw w.place.ensures))
+      | in_default w ↦ rw w.table-is (filled_other _ _ _ _ c.axiom_at.ensures c.loop-i.invariant w.in_default.not-Relates)
+    ]
 
 pub returns : goal.returns
-returns c = filled_all _ _ _ c.loop-i.invariant.1 (le_antisymm c.loop-i.invariant.0 c.loop-i-test.false ∙ c.axioms-n.ensures.value)
+returns c = filled_all _ _ _ c.loop-i.invariant (omega arith)

@@ -1,7 +1,6 @@
 -- The table of the axioms passed grows by the next axiom's entry (Filled of DomainLaws).
-use Prim.Native.Nat.{◌≤◌}
 use Rattle.classes.proofs.DomainLaws.{Filled}
 use Rattle.classes.proofs.domains.domains.Given as goal
 
 abbrev pub invariant-loop-i : goal.invariant-loop-i
-invariant-loop-i l = (l.i ≤ l.n) × Filled l.schema l.table l.i
+invariant-loop-i l = Filled l.schema l.table l.i
