@@ -18,3 +18,4 @@ pub mod LoopLaws
 pub mod TurnLaws
 pub mod Ascending
 pub mod Update
+pub mod RangeLaws

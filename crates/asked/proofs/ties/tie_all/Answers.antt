@@ -1,12 +1,9 @@
 -- The words passed are ties.
 use native.Mathlib.Omega.{arith}
-use mathlib.Core.Path.{refl, ◌∙◌}
+use mathlib.Core.Path.{◌∙◌}
 use Rattle.records.proofs.General.Filling.{changed_more, changed_all}
 use Rattle.asked.specs.Marked.{tie_word}
 use Rattle.asked.proofs.ties.tie_all.Goals as goal
-
-pub loop-word-init : goal.loop-word-init
-loop-word-init c = refl
 
 pub loop-word-preserved : goal.loop-word-preserved
 loop-word-preserved c =
