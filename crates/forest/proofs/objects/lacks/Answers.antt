@@ -17,4 +17,4 @@ pub kid-requires : goal.kid-requires
 kid-requires c = (c.requires.0.laid, c.requires.1, omega (arith, c.requires.0.laid.fits, c.requires.2))
 
 pub returns : goal.returns
-returns c = λ S tied. lacks_value _ _ _ c.requires.0.laid c.args.edges.now _ _ _ c.requires.2 S tied _ (rw (← c.classes_at.ensures, ← c.meets.ensures) c.if-not-meets.false) (sym (c.asks.ensures _ _) ∙ c.if-asks.false) (c.kid.ensures c.args.edges.now)
+returns c = λ S tied. lacks_value _ _ _ c.requires.0.laid c.args.edges.now _ _ _ c.requires.2 S tied _ _ c.is_none.ensures (rw (← c.classes_at.ensures, ← c.meets.ensures) c.if-not-meets.false) (sym (c.asks.ensures _ _) ∙ c.if-asks.false) (c.kid.ensures c.args.edges.now)

@@ -12,5 +12,5 @@ returns-then-step c = hopped_back c.requires.0 _ _ _ c.requires.2 c.if-step.true
 pub kid-requires : goal.kid-requires
 kid-requires c = (c.requires.0.laid, c.requires.1, omega (arith, c.requires.0.laid.fits, c.requires.2))
 
-pub returns : goal.returns
-returns c = hopped_ahead c.requires.0 _ _ _ c.requires.2 c.if-step.false c.kid.ensures
+pub returns-else-step : goal.returns-else-step
+returns-else-step c = hopped_ahead c.requires.0 _ _ _ c.requires.2 c.if-step.false c.kid.ensures
