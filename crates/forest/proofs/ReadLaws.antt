@@ -9,9 +9,8 @@ use mathlib.Core.Bool.{Bool, true, false, true≢false, false≢true, So, cond, 
 use mathlib.Core.List.{List, [], ◌∷◌}
 use mathlib.Core.Path.{◌≡◌, refl, sym, ap, ap₂, ◌∙◌}
 use lib.Dec.{eqb, ltb}
-use lib.ListN.{length, get_or, take}
+use lib.ListN.{get_or}
 use lib.Pow.{pow_pos, shl_exact}
-use lib.Seq.{take_all}
 use borrow.Author.Tests.{eqb-true, eq-eqb, ne_eqb, lt-ltb}
 use Rattle.records.specs.Layout.{max_classes, object_part}
 use Rattle.records.specs.Schema.{Schema}
@@ -23,7 +22,7 @@ use Rattle.chase.specs.Axioms.{collect, needs_by, needs}
 use Rattle.chase.specs.Forest.{Forest, kid, parent, asks, classes_of, lacks}
 use Rattle.std.specs.List.{list_any}
 use Rattle.records.proofs.General.LoopLaws.{any_map}
-use Rattle.records.proofs.General.BoolLaws.{or_left, or_right, and_both, and_parts}
+use Rattle.records.proofs.General.BoolLaws.{and_both, and_parts}
 use Rattle.records.proofs.AcceptedLaws.{passes_1}
 use Rattle.chase.proofs.AcceptanceLaws.{accepted-signature}
 use Rattle.primary.specs.Words.{edge_of}

@@ -1,5 +1,4 @@
 -- The objects passed have got their values.
-use native.Mathlib.Omega.{arith}
 use Rattle.forest.proofs.GrowLaws.{made_none, make_next, made_more, made_all_lem}
 use Rattle.forest.proofs.make.make_all.Goals as goal
 

@@ -5,9 +5,6 @@ use Rattle.forest.proofs.make.make_for.Goals as goal
 pub returns-then-step : goal.returns-then-step
 returns-then-step c = made_back c.if-step.true c.requires
 
-pub needs_mask-mask-requires : goal.needs_mask-mask-requires
-needs_mask-mask-requires c = c.requires.legal
-
 pub make-n-requires : goal.make-n-requires
 make-n-requires c = make_first c.if-step.false c.requires c.needs_mask-mask.ensures
 

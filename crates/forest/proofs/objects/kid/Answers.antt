@@ -1,11 +1,7 @@
 -- No object passed is the value made.
 use native.Mathlib.Omega.{arith}
-use mathlib.Core.Path.{refl}
 use Rattle.forest.proofs.ReadLaws.{below_first, below_met, below_more}
 use Rattle.forest.proofs.objects.kid.Goals as goal
-
-pub loop-e-init : goal.loop-e-init
-loop-e-init c = (c.requires.0.ground, λ edges. refl)
 
 pub loop-e-preserved : goal.loop-e-preserved
 loop-e-preserved c = (
