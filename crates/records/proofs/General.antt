@@ -19,3 +19,4 @@ pub mod TurnLaws
 pub mod RangeLaws
 pub mod Ascending
 pub mod Update
+pub mod RangeLaws
