@@ -19,4 +19,3 @@ pub mod TurnLaws
 pub mod RangeLaws
 pub mod Ascending
 pub mod Update
-pub mod RangeLaws
