@@ -1,10 +1,34 @@
 // A catalogue of views: which are held by which, and their groups in order.
-ghost use Rattle.bikuvoa_c.specs.Catalogued.{CataloguedTo};
+ghost use Rattle.std.specs.Prelude.{◌≡◌};
+ghost use Rattle.bikuvoa_c.specs.Catalogued.{CataloguedTo, Cataloguing};
 
+use c_answers::given::give;
 use catalogue::arrange::arrange;
-use catalogue::check::refusal;
+use catalogue::check::check;
 use check_catalogue::MAX_VIEWS;
 use encoding::words::put;
+use records::refusal::Refusal;
+
+// Returns the number of groups.
+fn catalogued(
+    schema: &[u16],
+    views: &[u16],
+    rows: &mut [u16],
+    order: &mut [u16],
+) -> Result<u64, Refusal>
+    ensures { Cataloguing schema.now views.now rows.old order.old result rows.new order.new }
+{
+    check(schema, views)?;
+    if (rows.len() < MAX_VIEWS) | (order.len() < MAX_VIEWS) {
+        return Err(Refusal::LentWords);
+    }
+    let held = catalogue::pairs::rows(schema, views);
+    let arranged = arrange(&held, check_catalogue::views(views));
+    let found = arranged.groups;
+    put(&held, rows);
+    put(&found, order);
+    Ok(arranged.count)
+}
 
 #[unsafe(no_mangle)]
 pub extern "C" fn bikuvoa_catalogue(
@@ -16,18 +40,5 @@ pub extern "C" fn bikuvoa_catalogue(
 ) -> u16
     ensures { CataloguedTo schema.now views.now rows.old order.old groups.old result rows.new order.new groups.new }
 {
-    let number = refusal(schema, views);
-    if number != 0 {
-        return number;
-    }
-    if (rows.len() < MAX_VIEWS) | (order.len() < MAX_VIEWS) {
-        return 11;
-    }
-    let held = catalogue::pairs::rows(schema, views);
-    let arranged = arrange(&held, check_catalogue::views(views));
-    let found = arranged.groups;
-    put(&held, rows);
-    put(&found, order);
-    *groups = arranged.count;
-    0
+    give(catalogued(schema, views, rows, order), groups)
 }

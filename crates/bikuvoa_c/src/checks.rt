@@ -1,8 +1,10 @@
 // A concept checked by itself in each role, and what it names.
 ghost use Rattle.records.specs.Check.{plain_check, query_check, view_check};
-ghost use Rattle.c_answers.specs.Checks.{CheckedTo};
+ghost use Rattle.c_answers.specs.Given.{GivenTo};
 
-use c_answers::checks::give;
+use c_answers::given::give_named;
+use check_concept::check::check;
+use records::concept::{Plain, Query, View};
 
 #[unsafe(no_mangle)]
 pub extern "C" fn bikuvoa_check_concept(
@@ -12,10 +14,10 @@ pub extern "C" fn bikuvoa_check_concept(
     attributes: &mut u32,
     named: &mut u64,
 ) -> u16
-    ensures { CheckedTo (plain_check schema.now concept.now) (record { classes = classes.old; attributes = attributes.old; count = named.old }) result (record { classes = classes.new; attributes = attributes.new; count = named.new }) }
+    ensures { GivenTo (λ x. x) (plain_check schema.now concept.now) (record { classes = classes.old; attributes = attributes.old; count = named.old }) result (record { classes = classes.new; attributes = attributes.new; count = named.new }) }
 {
-    give(
-        check_concept::check::plain(schema, concept),
+    give_named(
+        check::<Plain>(schema, concept),
         classes,
         attributes,
         named,
@@ -30,14 +32,9 @@ pub extern "C" fn bikuvoa_check_query(
     attributes: &mut u32,
     named: &mut u64,
 ) -> u16
-    ensures { CheckedTo (query_check schema.now query.now) (record { classes = classes.old; attributes = attributes.old; count = named.old }) result (record { classes = classes.new; attributes = attributes.new; count = named.new }) }
+    ensures { GivenTo (λ x. x) (query_check schema.now query.now) (record { classes = classes.old; attributes = attributes.old; count = named.old }) result (record { classes = classes.new; attributes = attributes.new; count = named.new }) }
 {
-    give(
-        check_concept::check::query(schema, query),
-        classes,
-        attributes,
-        named,
-    )
+    give_named(check::<Query>(schema, query), classes, attributes, named)
 }
 
 #[unsafe(no_mangle)]
@@ -48,12 +45,7 @@ pub extern "C" fn bikuvoa_check_view(
     attributes: &mut u32,
     named: &mut u64,
 ) -> u16
-    ensures { CheckedTo (view_check schema.now view.now) (record { classes = classes.old; attributes = attributes.old; count = named.old }) result (record { classes = classes.new; attributes = attributes.new; count = named.new }) }
+    ensures { GivenTo (λ x. x) (view_check schema.now view.now) (record { classes = classes.old; attributes = attributes.old; count = named.old }) result (record { classes = classes.new; attributes = attributes.new; count = named.new }) }
 {
-    give(
-        check_concept::check::view(schema, view),
-        classes,
-        attributes,
-        named,
-    )
+    give_named(check::<View>(schema, view), classes, attributes, named)
 }

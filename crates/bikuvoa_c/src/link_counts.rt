@@ -1,8 +1,9 @@
 // Links counted from both ends.
 ghost use Rattle.links.specs.Links.{by_first_answer, by_second_answer};
-ghost use Rattle.c_answers.specs.Links.{LinksTo};
+ghost use Rattle.c_answers.specs.Given.{GivenTo};
 
-use c_answers::link_counts::{links_returns, links_writes};
+use c_answers::given::give_count;
+use links::{by_first, by_second};
 
 #[unsafe(no_mangle)]
 pub extern "C" fn bikuvoa_links_by_first(
@@ -12,11 +13,9 @@ pub extern "C" fn bikuvoa_links_by_first(
     attribute: u16,
     links: &mut u64,
 ) -> u16
-    ensures { LinksTo (by_first_answer schema.now concept.now state.now attribute) links.old result links.new }
+    ensures { GivenTo (λ n. n) (by_first_answer schema.now concept.now state.now attribute) links.old result links.new }
 {
-    let answer = links::by_first(schema, concept, state, attribute);
-    *links = links_writes(answer, *links);
-    links_returns(answer)
+    give_count(by_first(schema, concept, state, attribute), links)
 }
 
 #[unsafe(no_mangle)]
@@ -27,9 +26,7 @@ pub extern "C" fn bikuvoa_links_by_second(
     attribute: u16,
     links: &mut u64,
 ) -> u16
-    ensures { LinksTo (by_second_answer schema.now concept.now state.now attribute) links.old result links.new }
+    ensures { GivenTo (λ n. n) (by_second_answer schema.now concept.now state.now attribute) links.old result links.new }
 {
-    let answer = links::by_second(schema, concept, state, attribute);
-    *links = links_writes(answer, *links);
-    links_returns(answer)
+    give_count(by_second(schema, concept, state, attribute), links)
 }

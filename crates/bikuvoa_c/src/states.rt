@@ -3,12 +3,12 @@ ghost use Rattle.std.specs.Prelude.{◌≡◌};
 ghost use Rattle.judge.specs.Select.{select_outcome};
 ghost use Rattle.judge.specs.LegalState.{legal_answer};
 ghost use Rattle.judge.specs.Counterexample.{counterexample_answer};
-ghost use Rattle.c_answers.specs.States.{select_returns, select_writes, legal_returns, legal_writes, counterexample_returns, counterexample_writes};
+ghost use Rattle.c_answers.specs.Given.{GivenTo, one_more};
 
-use c_answers::states::{
-    counterexample_returns, counterexample_writes, legal_returns, legal_writes, select_returns,
-    select_writes,
-};
+use c_answers::given::{give_count, give_place};
+use judge::counterexample::counterexample;
+use judge::legal::legal;
+use judge::select::select;
 
 #[unsafe(no_mangle)]
 pub extern "C" fn bikuvoa_select(
@@ -18,23 +18,17 @@ pub extern "C" fn bikuvoa_select(
     lent: &mut [u16],
     selected: &mut u64,
 ) -> u16
-    ensures returned { result ≡ select_returns (select_outcome schema.now concept.now state.now lent.old).answer }
+    ensures given { GivenTo (λ n. n) (select_outcome schema.now concept.now state.now lent.old).answer selected.old result selected.new }
     ensures words { lent.new ≡ (select_outcome schema.now concept.now state.now lent.old).words }
-    ensures written { selected.new ≡ select_writes (select_outcome schema.now concept.now state.now lent.old).answer selected.old }
 {
-    let answer = judge::select::select(schema, concept, state, lent);
-    *selected = select_writes(answer, *selected);
-    select_returns(answer)
+    give_count(select(schema, concept, state, lent), selected)
 }
 
 #[unsafe(no_mangle)]
 pub extern "C" fn bikuvoa_legal(schema: &[u16], state: &[u16], broken: &mut u64) -> u16
-    ensures returned { result ≡ legal_returns (legal_answer schema.now state.now) }
-    ensures written { broken.new ≡ legal_writes (legal_answer schema.now state.now) broken.old }
+    ensures { GivenTo one_more (legal_answer schema.now state.now) broken.old result broken.new }
 {
-    let answer = judge::legal::legal(schema, state);
-    *broken = legal_writes(answer, *broken);
-    legal_returns(answer)
+    give_place(legal(schema, state), broken)
 }
 
 #[unsafe(no_mangle)]
@@ -45,10 +39,7 @@ pub extern "C" fn bikuvoa_counterexample(
     state: &[u16],
     found: &mut u64,
 ) -> u16
-    ensures returned { result ≡ counterexample_returns (counterexample_answer schema.now query.now view.now state.now) }
-    ensures written { found.new ≡ counterexample_writes (counterexample_answer schema.now query.now view.now state.now) found.old }
+    ensures { GivenTo one_more (counterexample_answer schema.now query.now view.now state.now) found.old result found.new }
 {
-    let answer = judge::counterexample::counterexample(schema, query, view, state);
-    *found = counterexample_writes(answer, *found);
-    counterexample_returns(answer)
+    give_place(counterexample(schema, query, view, state), found)
 }

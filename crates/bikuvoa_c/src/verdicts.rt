@@ -1,17 +1,15 @@
 // Held or open: decide, and holds, which writes no state.
 ghost use Rattle.c_answers.specs.Verdicts.{HoldsTo, DecidedTo};
 
-use c_answers::verdicts::{
-    decide_object, decide_objects, decide_returns, holds_returns, holds_writes,
-};
+use c_answers::verdicts::{give_held, give_witness};
+use decide::decide;
+use decide::holds::holds;
 
 #[unsafe(no_mangle)]
 pub extern "C" fn bikuvoa_holds(schema: &[u16], query: &[u16], view: &[u16], held: &mut u64) -> u16
     ensures { HoldsTo schema.now query.now view.now held.old result held.new }
 {
-    let answer = decide::holds::holds(schema, query, view);
-    *held = holds_writes(answer, *held);
-    holds_returns(answer)
+    give_held(holds(schema, query, view), held)
 }
 
 #[unsafe(no_mangle)]
@@ -25,8 +23,5 @@ pub extern "C" fn bikuvoa_decide(
 ) -> u16
     ensures { DecidedTo schema.now query.now view.now lent.old objects.old object.old result lent.new objects.new object.new }
 {
-    let answer = decide::decide(schema, query, view, lent);
-    *objects = decide_objects(answer, *objects);
-    *object = decide_object(answer, *object);
-    decide_returns(answer)
+    give_witness(decide(schema, query, view, lent), objects, object)
 }

@@ -9,7 +9,7 @@ use catalogue::order::order;
 use catalogue::sets::has;
 use catalogue::verdicts::verdicts;
 use check_catalogue::{MAX_VIEWS, views};
-use decide::holds::HoldsAnswer;
+use records::refusal::Refusal;
 use records::schema::{MAX_AXIOMS, SCHEMA_SIZES};
 use records::token::{CONCEPT_SIZES, MAX_TOKENS};
 use std::io;
@@ -23,19 +23,13 @@ const CATALOGUE_WORDS: usize = 1 + MAX_VIEWS * (1 + CONCEPT_SIZES + 2 * MAX_TOKE
 // Room for more than the longer of the two.
 const BYTES: usize = 2 * CATALOGUE_WORDS + 1;
 
-fn print(rt: &impl Print, text: &[u8]) -> io::Result<()> {
-    rt.write_all(text)
-}
-
-fn print_number(rt: &impl Print, n: usize) -> io::Result<()> {
-    rt.print(n)
-}
-
+// Each number after the first has a space before it.
 fn print_view(rt: &impl Print, first: bool, view: usize) -> io::Result<()> {
-    if !first {
-        print(rt, b" ")?;
+    if first {
+        print!(rt; "{view}")
+    } else {
+        print!(rt; " {view}")
     }
-    print_number(rt, view)
 }
 
 fn print_group(rt: &impl Print, set: u16) -> io::Result<()> {
@@ -46,54 +40,53 @@ fn print_group(rt: &impl Print, set: u16) -> io::Result<()> {
             first = false;
         }
     }
-    print(rt, b"\n")
+    println!(rt; "")
 }
 
-fn print_row(rt: &impl Print, verdicts: [HoldsAnswer; MAX_VIEWS]) -> io::Result<()> {
+fn print_row(rt: &impl Print, row: &[bool]) -> io::Result<()> {
     let mut first = true;
-    for view in 0..MAX_VIEWS {
-        let verdict = verdicts[view];
-        if let HoldsAnswer::Held = verdict {
+    for (view, held) in row.iter().enumerate() {
+        if *held {
             print_view(rt, first, view)?;
             first = false;
         }
     }
-    print(rt, b"\n")
+    println!(rt; "")
+}
+
+fn print_order(rt: &impl Print, found: &Order) -> io::Result<()> {
+    for (k, group) in found.groups.iter().enumerate() {
+        if (k as u64) < found.count {
+            print_group(rt, *group)?;
+        }
+    }
+    println!(rt; "")
 }
 
 fn print_table(
     rt: &impl Print,
-    table: [[HoldsAnswer; MAX_VIEWS]; MAX_VIEWS],
+    table: &[[bool; MAX_VIEWS]; MAX_VIEWS],
     count: usize,
 ) -> io::Result<()> {
-    for view in 0..MAX_VIEWS {
-        if view < count {
-            print_row(rt, table[view])?;
-        }
+    for row in table.iter().take(count) {
+        print_row(rt, row)?;
     }
     Ok(())
 }
 
-fn print_order(rt: &impl Print, found: Order) -> io::Result<()> {
-    let groups = found.groups;
-    for k in 0..MAX_VIEWS {
-        if (k as u64) < found.count {
-            print_group(rt, groups[k])?;
-        }
-    }
-    Ok(())
+fn print_refusal(rt: &impl Print, refusal: Refusal) -> io::Result<()> {
+    println!(rt; "REFUSED {}", u16::from(refusal))
 }
 
 fn run(rt: &impl Print, schema: &[u16], catalogue: &[u16]) -> io::Result<()> {
-    let answer = order(schema, catalogue);
-    if answer.refusal != 0 {
-        print(rt, b"REFUSED ")?;
-        print_number(rt, answer.refusal as usize)?;
-        return print(rt, b"\n");
+    match order(schema, catalogue) {
+        Ok(found) => print_order(rt, &found)?,
+        Err(refusal) => return print_refusal(rt, refusal),
     }
-    print_order(rt, answer.order)?;
-    print(rt, b"\n")?;
-    print_table(rt, verdicts(schema, catalogue), views(catalogue))
+    match verdicts(schema, catalogue) {
+        Ok(table) => print_table(rt, &table, views(catalogue)),
+        Err(refusal) => print_refusal(rt, refusal),
+    }
 }
 
 fn run_with_schema(rt: &(impl Files + Print), schema: &[u16], bytes: &mut [u8]) -> io::Result<()> {

@@ -1,56 +1,36 @@
 // What C gets of decide and holds.
-ghost use Rattle.std.specs.Prelude.{◌≡◌};
-ghost use Rattle.c_answers.specs.Verdicts.{holds_returns, holds_writes, decide_returns, decide_objects, decide_object};
+ghost use Rattle.c_answers.specs.Given.{GivenTo};
+ghost use Rattle.c_answers.specs.Verdicts.{held_bit, WitnessTo};
 
-use decide::DecideAnswer;
-use decide::holds::HoldsAnswer;
+use crate::given::give;
+use decide::Witness;
+use records::refusal::Refusal;
 
-pub fn holds_returns(answer: HoldsAnswer) -> u16
-    ensures { result ≡ holds_returns answer }
+// 1 for held, 0 for open.
+pub fn give_held(answer: Result<bool, Refusal>, held: &mut u64) -> u16
+    ensures { GivenTo held_bit answer held.old result held.new }
 {
-    match answer {
-        HoldsAnswer::Held => 0,
-        HoldsAnswer::Open => 0,
-        HoldsAnswer::Refused(number) => number,
-    }
+    give(answer.map(u64::from), held)
 }
 
-pub fn holds_writes(answer: HoldsAnswer, before: u64) -> u64
-    ensures { result ≡ holds_writes answer before }
+// Where a view holds the query there is no state, and so no object of it.
+pub fn give_witness(
+    answer: Result<Option<Witness>, Refusal>,
+    objects: &mut u64,
+    object: &mut u64,
+) -> u16
+    ensures { WitnessTo answer objects.old object.old result objects.new object.new }
 {
     match answer {
-        HoldsAnswer::Held => 1,
-        HoldsAnswer::Open => 0,
-        HoldsAnswer::Refused(_) => before,
-    }
-}
-
-pub fn decide_returns(answer: DecideAnswer) -> u16
-    ensures { result ≡ decide_returns answer }
-{
-    match answer {
-        DecideAnswer::Held => 0,
-        DecideAnswer::Open(_, _) => 0,
-        DecideAnswer::Refused(number) => number,
-    }
-}
-
-pub fn decide_objects(answer: DecideAnswer, before: u64) -> u64
-    ensures { result ≡ decide_objects answer before }
-{
-    match answer {
-        DecideAnswer::Held => 0,
-        DecideAnswer::Open(n, _) => n as u64,
-        DecideAnswer::Refused(_) => before,
-    }
-}
-
-pub fn decide_object(answer: DecideAnswer, before: u64) -> u64
-    ensures { result ≡ decide_object answer before }
-{
-    match answer {
-        DecideAnswer::Held => before,
-        DecideAnswer::Open(_, object) => object as u64,
-        DecideAnswer::Refused(_) => before,
+        Ok(None) => {
+            *objects = 0;
+            0
+        }
+        Ok(Some(witness)) => {
+            *objects = witness.objects as u64;
+            *object = witness.object as u64;
+            0
+        }
+        Err(refusal) => u16::from(refusal),
     }
 }

@@ -3,7 +3,7 @@
 // which words a file's bytes give is proved; what is printed is held to the stored runs of bikuvoa and bikuvoa_open.
 #![tactic(auto)]
 
-use decide::{DecideAnswer, decide};
+use decide::decide;
 use records::layout::{left, right};
 use records::schema::{MAX_AXIOMS, SCHEMA_SIZES};
 use records::state::{STATE_WORDS, facts, state_layout};
@@ -19,25 +19,12 @@ const CONCEPT_WORDS: usize = CONCEPT_SIZES + 2 * MAX_TOKENS;
 // Room for more than the longer of the two.
 const BYTES: usize = 2 * SCHEMA_WORDS + 1;
 
-fn print(rt: &impl Print, text: &[u8]) -> io::Result<()> {
-    rt.write_all(text)
-}
-
-fn print_number(rt: &impl Print, n: usize) -> io::Result<()> {
-    rt.print(n)
-}
-
-fn print_pair(rt: &impl Print, a: usize, b: usize) -> io::Result<()> {
-    println!(rt; "{a} {b}")
-}
-
 fn print_facts(rt: &impl Print, words: &[u16]) -> io::Result<()> {
-    let n = facts(words);
-    for i in 0..n {
-        print_pair(
-            rt,
+    for i in 0..facts(words) {
+        println!(rt;
+            "{} {}",
             left(state_layout(), words, i),
-            right(state_layout(), words, i),
+            right(state_layout(), words, i)
         )?;
     }
     Ok(())
@@ -46,17 +33,12 @@ fn print_facts(rt: &impl Print, words: &[u16]) -> io::Result<()> {
 fn run(rt: &impl Print, schema: &[u16], query: &[u16], view: &[u16]) -> io::Result<()> {
     let mut lent = [0u16; STATE_WORDS];
     match decide(schema, query, view, &mut lent) {
-        DecideAnswer::Held => print(rt, b"HELD\n"),
-        DecideAnswer::Open(objects, object) => {
-            print(rt, b"OPEN ")?;
-            print_pair(rt, objects, object)?;
+        Ok(None) => println!(rt; "HELD"),
+        Ok(Some(witness)) => {
+            println!(rt; "OPEN {} {}", witness.objects, witness.object)?;
             print_facts(rt, &lent)
         }
-        DecideAnswer::Refused(number) => {
-            print(rt, b"REFUSED ")?;
-            print_number(rt, number as usize)?;
-            print(rt, b"\n")
-        }
+        Err(refusal) => println!(rt; "REFUSED {}", u16::from(refusal)),
     }
 }
 

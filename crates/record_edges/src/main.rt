@@ -2,14 +2,14 @@
 // refusal's number, 0 if it is accepted. tests/record_edges.py has the cases and what document 01 says of each.
 #![tactic(auto)]
 
-use check_concept::{check_plain, check_query, check_view};
+use check_concept::check_concept;
 use check_schema::check_schema;
 use check_state::check_state;
 use reading::used;
-use records::concept::ConceptAnswer;
-use records::layout::word;
+use records::concept::{Plain, Query, View};
 use records::marks::allow;
-use records::schema::{SchemaAnswer, Signature};
+use records::refusal::Refusal;
+use records::schema::Signature;
 use std::io;
 use std::rt::Files;
 
@@ -17,50 +17,37 @@ const WORDS: usize = 163_840;
 
 const BYTES: usize = 2 * WORDS;
 
-fn print(rt: &impl Print, text: &[u8]) -> io::Result<()> {
-    rt.write_all(text)
-}
-
-fn report(rt: &impl Print, role: &[u8], number: u16) -> io::Result<()> {
-    print(rt, role)?;
-    println!(rt; "{number}")
+fn number<T: Drop>(answer: Result<T, Refusal>) -> u16 {
+    answer.map_or_else(u16::from, |_| 0)
 }
 
 // Checks one record in its role. An accepted schema is the one under which the next records stand, and an accepted query the one
 // whose marks the next states have.
 fn check(rt: &impl Print, role: u16, s: Signature, record: &[u16]) -> io::Result<Signature> {
-    Ok(match role {
+    match role {
         1 => {
             let answer = check_schema(record);
-            report(rt, b" schema ", answer.number())?;
-            if let SchemaAnswer::Accepted(next) = answer {
-                next
-            } else {
-                s
-            }
+            println!(rt; " schema {}", number(answer))?;
+            Ok(answer.unwrap_or(s))
         }
         2 => {
-            let answer = check_query(s, record);
-            report(rt, b" query ", answer.number())?;
-            if let ConceptAnswer::Accepted(_) = answer {
-                allow(s, used(record))
-            } else {
-                s
-            }
+            let answer = check_concept::<Query>(s, record);
+            println!(rt; " query {}", number(answer))?;
+            Ok(answer.map_or(s, |_| allow(s, used(record))))
         }
         3 => {
-            report(rt, b" view ", check_view(s, record).number())?;
-            s
+            println!(rt; " view {}", number(check_concept::<View>(s, record)))?;
+            Ok(s)
         }
         4 => {
-            report(rt, b" concept ", check_plain(s, record).number())?;
-            s
+            println!(rt; " concept {}", number(check_concept::<Plain>(s, record)))?;
+            Ok(s)
         }
         _ => {
-            report(rt, b" state ", check_state(s, record).number())?;
-            s
+            println!(rt; " state {}", number(check_state(s, record)))?;
+            Ok(s)
         }
-    })
+    }
 }
 
 // A case is its role, its length and its words.
@@ -72,23 +59,16 @@ fn run(rt: &impl Print, words: &[u16]) -> io::Result<()> {
         loose: 0,
         marks: 0,
     };
-    let mut at = 0;
+    let mut rest = words;
     let mut case: u64 = 0;
-    while at < words.len() {
-        if words.len() - at < 2 {
+    while let [role, length, others @ ..] = rest {
+        let n = usize::from(*length);
+        if others.len() < n {
             return Ok(());
         }
-        let role = words[at];
-        let n = word(words, at + 1);
-        let from = at + 2;
-        if words.len() - from < n {
-            return Ok(());
-        }
-        let to = from + n;
         print!(rt; "{case}")?;
-        let next = check(rt, role, s, &words[from..to])?;
-        s = next;
-        at = to;
+        s = check(rt, *role, s, &others[..n])?;
+        rest = &others[n..];
         case = case.wrapping_add(1);
     }
     Ok(())

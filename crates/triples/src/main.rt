@@ -2,9 +2,8 @@
 // counterexample check says of the state. tests/triples.py has the triples and what the papers say of each.
 #![tactic(auto)]
 
-use decide::{DecideAnswer, decide};
-use judge::counterexample::{CounterexampleAnswer, counterexample};
-use records::layout::word;
+use decide::decide;
+use judge::counterexample::counterexample;
 use records::state::{STATE_SIZES, STATE_WORDS, facts};
 use std::io;
 use std::rt::Files;
@@ -12,10 +11,6 @@ use std::rt::Files;
 const WORDS: usize = 16_384;
 
 const BYTES: usize = 2 * WORDS;
-
-fn print(rt: &impl Print, text: &[u8]) -> io::Result<()> {
-    rt.write_all(text)
-}
 
 // Whether the check finds the object that decide named.
 fn report_state(
@@ -30,51 +25,36 @@ fn report_state(
     if lent.len() < n {
         return Ok(());
     }
-    let CounterexampleAnswer::Yes(found) = counterexample(schema, query, view, &lent[..n]) else {
-        return print(rt, b"OPEN, no counterexample\n");
-    };
-    if found == object {
-        print(rt, b"OPEN, a counterexample\n")
-    } else {
-        print(rt, b"OPEN, another counterexample\n")
+    match counterexample(schema, query, view, &lent[..n]) {
+        Ok(Some(found)) if found == object => println!(rt; "OPEN, a counterexample"),
+        Ok(Some(_)) => println!(rt; "OPEN, another counterexample"),
+        Ok(None) | Err(_) => println!(rt; "OPEN, no counterexample"),
     }
 }
 
 fn report(rt: &impl Print, schema: &[u16], query: &[u16], view: &[u16]) -> io::Result<()> {
     let mut lent = [0u16; STATE_WORDS];
     match decide(schema, query, view, &mut lent) {
-        DecideAnswer::Held => print(rt, b"HELD\n"),
-        DecideAnswer::Open(_, object) => report_state(rt, schema, query, view, &lent, object),
-        DecideAnswer::Refused(number) => println!(rt; "REFUSED {number}"),
+        Ok(None) => println!(rt; "HELD"),
+        Ok(Some(witness)) => report_state(rt, schema, query, view, &lent, witness.object),
+        Err(refusal) => println!(rt; "REFUSED {}", u16::from(refusal)),
     }
 }
 
 // A triple is the lengths of its schema, query and view, and then their words.
 fn run(rt: &impl Print, words: &[u16]) -> io::Result<()> {
-    let mut at = 0;
+    let mut rest = words;
     let mut case: u64 = 0;
-    while at < words.len() {
-        if words.len() - at < 3 {
+    while let [schema, query, view, others @ ..] = rest {
+        let s = usize::from(*schema);
+        let q = s + usize::from(*query);
+        let v = q + usize::from(*view);
+        if others.len() < v {
             return Ok(());
         }
-        let from = at + 3;
-        let s = word(words, at);
-        let q = word(words, at + 1);
-        let v = word(words, at + 2);
-        if words.len() - from < s + q + v {
-            return Ok(());
-        }
-        let query = from + s;
-        let view = query + q;
-        let to = view + v;
         print!(rt; "{case} ")?;
-        report(
-            rt,
-            &words[from..query],
-            &words[query..view],
-            &words[view..to],
-        )?;
-        at = to;
+        report(rt, &others[..s], &others[s..q], &others[q..v])?;
+        rest = &others[v..];
         case = case.wrapping_add(1);
     }
     Ok(())
