@@ -4,7 +4,6 @@ ghost use Rattle.records.specs.Layout.{state_layout, length_for};
 ghost use Rattle.records.specs.Encoding.{class_fact, class_facts_in, state_record};
 
 use crate::halves::fill;
-use records::layout::narrow;
 use records::state::{
     AT_CLASS_FACTS, AT_FACTS, AT_OBJECTS, ATTRIBUTE_KINDS, OBJECT_PART, STATE_SIZES, WORD_PART,
 };
@@ -20,12 +19,7 @@ fn class_fact(fact: u32) -> bool
 fn class_facts_in(facts: &[u32]) -> usize
     ensures { (result ≡ class_facts_in facts.now) × (result ≤ length facts.now) }
 {
-    let n = facts.len();
-    let mut found = 0;
-    for i in 0..n {
-        found += class_fact(facts[i]) as usize;
-    }
-    found
+    facts.iter().filter(|fact| class_fact(**fact)).count()
 }
 
 // The sizes, then the words of the facts. The answer is how many words the record takes.
@@ -35,9 +29,9 @@ pub fn write(objects: usize, facts: &[u32], lent: &mut [u16]) -> usize
     ensures lent_after { lent.new ≡ state_record objects facts.now ++ drop result lent.old }
 {
     let n = facts.len();
-    lent[AT_OBJECTS] = narrow(objects);
-    lent[AT_FACTS] = narrow(n);
-    lent[AT_CLASS_FACTS] = narrow(class_facts_in(facts));
+    lent[AT_OBJECTS] = objects as u16;
+    lent[AT_FACTS] = n as u16;
+    lent[AT_CLASS_FACTS] = class_facts_in(facts) as u16;
     fill(facts, &mut lent[STATE_SIZES..]);
     STATE_SIZES + 2 * n
 }

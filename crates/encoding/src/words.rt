@@ -5,8 +5,5 @@ pub fn put(words: &[u16], lent: &mut [u16])
     requires { length words.now ≤ length lent.old }
     ensures { lent.new ≡ words.now ++ drop (length words.now) lent.old }
 {
-    let n = words.len();
-    for i in 0..n {
-        lent[i] = words[i];
-    }
+    lent[..words.len()].copy_from_slice(words);
 }

@@ -1,33 +1,29 @@
 -- The sizes are stored, and the rest is lent to be filled.
 use native.Mathlib.Omega.{arith}
-use mathlib.Core.List.{[], ◌∷◌}
-use mathlib.Core.Path.{sym, ◌∙◌}
-use lib.ListN.{length}
-use lib.Seq.{lt-length-sets}
+use mathlib.Core.Path.{refl, sym, ◌∙◌}
+use Prim.Native.Nat.{ℕ}
+use lib.ListN.{length, length-set}
 use Rattle.records.proofs.EncodingLaws.{state_words, state_length}
-use Rattle.encoding.proofs.WriteLaws.{sized_length, sized_room, write_all}
+use Rattle.encoding.proofs.WriteLaws.{sized_room, write_all}
 use Rattle.encoding.proofs.states.write.Goals as goal
 
 pub bounds-lent-0 : goal.bounds-lent-0
 bounds-lent-0 c = omega (arith, c.requires, state_words (length c.args.facts.now))
 
 pub bounds-lent-1 : goal.bounds-lent-1
-bounds-lent-1 c = lt-length-sets c.args.lent.now 0 (c.narrow.result ∷ []) (omega (arith, c.requires, state_words (length c.args.facts.now)))
-
-pub narrow-requires-3 : goal.narrow-requires-3
-narrow-requires-3 c = omega (arith, c.requires, c.class_facts_in.ensures.1)
+bounds-lent-1 c = omega (arith, c.requires, state_words (length c.args.facts.now), length-set {A = ℕ})
 
 pub bounds-lent-2 : goal.bounds-lent-2
-bounds-lent-2 c = lt-length-sets c.args.lent.now 0 (c.narrow.result ∷ c.narrow-2.result ∷ []) (omega (arith, c.requires, state_words (length c.args.facts.now)))
+bounds-lent-2 c = omega (arith, c.requires, state_words (length c.args.facts.now), length-set {A = ℕ})
 
 pub slice_bounds-fill-count : goal.slice_bounds-fill-count
-slice_bounds-fill-count c = omega (arith, c.requires, state_words (length c.args.facts.now), sized_length c.args.lent.now c.narrow.result c.narrow-2.result c.narrow-3.result)
+slice_bounds-fill-count c = omega (arith, c.requires, state_words (length c.args.facts.now), length-set {A = ℕ})
 
 pub slice_bounds-fill-start : goal.slice_bounds-fill-start
-slice_bounds-fill-start c = omega (arith, c.requires, state_words (length c.args.facts.now), sized_length c.args.lent.now c.narrow.result c.narrow-2.result c.narrow-3.result)
+slice_bounds-fill-start c = omega (arith, c.requires, state_words (length c.args.facts.now), length-set {A = ℕ})
 
 pub fill-requires : goal.fill-requires
-fill-requires c = sized_room c.args.lent.now c.narrow.result c.narrow-2.result c.narrow-3.result _ c.requires.2
+fill-requires c = sized_room c.args.lent.now c.args.objects (length c.args.facts.now) c.class_facts_in.result _ c.requires.2
 
 pub returns : goal.returns
 returns c =
@@ -35,6 +31,6 @@ returns c =
     record {
       value = sym (state_length a.objects a.facts.now ∙ state_words (length a.facts.now));
       lent_after =
-          write_all c.args.lent.now c.narrow.result c.narrow-2.result c.narrow-3.result a.objects a.facts.now c.fill.new.to c.requires.2
-          c.narrow.ensures c.narrow-2.ensures (c.narrow-3.ensures ∙ c.class_facts_in.ensures.0) c.fill.ensures;
+          write_all c.args.lent.now a.objects (length a.facts.now) c.class_facts_in.result a.objects a.facts.now c.fill.new.to c.requires.2
+          refl refl c.class_facts_in.ensures.0 c.fill.ensures;
     }

@@ -1,2 +1,0 @@
--- What only contracts of helper functions cite.
-pub mod Half
