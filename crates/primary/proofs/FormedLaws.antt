@@ -7,7 +7,8 @@ use mathlib.Core.Path.{◌≡◌, refl, sym, ap, subst, ◌∙◌}
 use lib.Bits.{bit_or}
 use lib.Dec.{eqb}
 use lib.ListN.{length, get_or, set, length-set, length-map}
-use borrow.Author.Tests.{lt-ltb, le-ltb}
+use Rattle.std.proofs.Common.{◌≢◌, min, max}
+use Rattle.std.proofs.lemmas.Bool.Decides.{nat_tests}
 use Rattle.chase.specs.Primary.{Prime, rep_of, set_of, add, join, merge, rival, unify}
 use Rattle.records.specs.Schema.{Schema}
 use Rattle.chase.specs.Facts.{Edge}
@@ -55,36 +56,36 @@ module _ (r s : List ℕ) (formed : Formed r s) where
 
 -- which way a merge goes
 module _ (x : Prime) (n m : ℕ) where
-  pub merge_up : rep_of x n < rep_of x m → merge n m x ≡ join (rep_of x n) (rep_of x m) x
+  pub merge_apart : rep_of x n ≢ rep_of x m
+      → merge n m x ≡ join (min (rep_of x n) (rep_of x m)) (max (rep_of x n) (rep_of x m)) x
   unfolding merge
-  merge_up h = rw (lt-ltb (rep_of x n) (rep_of x m) h)
+  merge_apart h = grind (arith, nat_tests)
 
-  pub merge_down : rep_of x m < rep_of x n → merge n m x ≡ join (rep_of x m) (rep_of x n) x
+  pub merge_self : rep_of x n ≡ rep_of x m → merge n m x ≡ x
   unfolding merge
-  merge_down h = rw (le-ltb (rep_of x n) (rep_of x m) (omega arith), lt-ltb (rep_of x m) (rep_of x n) h)
+  merge_self h = grind (arith, nat_tests)
 
-  pub merge_self : rep_of x m ≤ rep_of x n → rep_of x n ≤ rep_of x m → merge n m x ≡ x
-  unfolding merge
-  merge_self h k = rw (le-ltb (rep_of x n) (rep_of x m) h, le-ltb (rep_of x m) (rep_of x n) k)
+-- A loop whose turns each leave the lists in order: over words, of which i are passed, and over numbers.
+pub record Passed {A : Type 0} (run : A → Prime → Prime) (f : ℕ → A) (l : List ℕ) (x : Prime) (i : ℕ) (r s : List ℕ) : Type 0 where
+  pub value : prime r s ≡ passed run f l i x
+  pub formed : Formed r s
+  pub size : length r ≡ length x.reps
 
--- A loop whose turns each leave the lists in order: over words, and over numbers.
-module _ {A : Type 0} (run : A → Prime → Prime) (f : ℕ → A) (l : List ℕ) where
-  pub words_none : (r s : List ℕ) → Formed r s → Becomes (length r) r s (passed run f l 0 (prime r s))
-  words_none r s h = record { value = passed_none run f l (prime r s); formed = h; size = refl }
+module _ {A : Type 0} {run : A → Prime → Prime} {f : ℕ → A} {l : List ℕ} where
+  pub words_none : {r s : List ℕ} → Formed r s → Passed run f l (prime r s) 0 r s
+  words_none {r} {s} h = record { value = passed_none run f l (prime r s); formed = h; size = refl }
 
-  pub words_more : (i n : ℕ) (x : Prime) (r s q t : List ℕ) → i < length l → Becomes n r s (passed run f l i x)
-      → Becomes (length r) q t (run (f (get_or l i 0)) (prime r s))
-      → Becomes n q t (passed run f l (i + 1) x)
-  words_more i n x r s q t h a b =
+  pub words_more : {x : Prime} {i : ℕ} {r s q t : List ℕ} → i < length l → Passed run f l x i r s
+      → Becomes (length r) q t (run (f (get_or l i 0)) (prime r s)) → Passed run f l x (i + 1) q t
+  words_more {x} {i} {r} {s} {q} {t} h a b =
       record {
         value = passed_more run f l i x (prime r s) (prime q t) h a.value b.value;
         formed = b.formed;
         size = b.size ∙ a.size;
       }
 
-  pub words_all : (i n : ℕ) (x : Prime) (r s : List ℕ) → length l ≤ i → Becomes n r s (passed run f l i x)
-      → Becomes n r s (each run (map f l) x)
-  words_all i n x r s h a = record { value = passed_all run f l i x (prime r s) h a.value; formed = a.formed; size = a.size }
+  pub words_all : {x : Prime} {i : ℕ} {r s : List ℕ} → length l ≤ i → Passed run f l x i r s → Becomes (length x.reps) r s (each run (map f l) x)
+  words_all {x} {i} {r} {s} h a = record { value = passed_all run f l i x (prime r s) h a.value; formed = a.formed; size = a.size }
 
 module _ (run : ℕ → Prime → Prime) where
   pub turns_none : (r s : List ℕ) → Formed r s → Becomes (length r) r s (upto run 0 (prime r s))
@@ -129,7 +130,7 @@ module _ (S : Schema) (e f : Edge) (x : Prime) where
   -- nothing is to do where the targets are one object already
   pub unify_same : rep_of x e.target ≡ rep_of x f.target → unify S e f x ≡ x
   unify_same h =
-      cond_elim (λ (y : Prime). y ≡ x) (rival S e f x) (λ _. merge_self x e.target f.target (omega arith) (omega arith)) (λ _. refl)
+      cond_elim (λ (y : Prime). y ≡ x) (rival S e f x) (λ _. merge_self x e.target f.target h) (λ _. refl)
 
   -- whether they are: the test of the axioms is made only where the others pass
   abbrev together : Bool

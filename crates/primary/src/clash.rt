@@ -11,20 +11,12 @@ fn clashes_with(s: Signature, reps: &[u32], first: usize, b: usize) -> bool
     requires { (first + b < length reps.now) × (b < word_digits) }
     ensures { result ≡ repeats s (rep_at reps.now first) b }
 {
-    let mut found = false;
-    for a in 0..b {
-        found = found | (differ(s, b, a) & (reps[first + a] == reps[first + b]));
-    }
-    found
+    (0..b).any(|a| differ(s, b, a) & (reps[first + a] == reps[first + b]))
 }
 
 pub fn clashes(s: Signature, reps: &[u32], first: usize) -> bool
     requires { (first + s.constants ≤ length reps.now) × (s.constants ≤ word_digits) }
     ensures { result ≡ clashes_in s reps.now first }
 {
-    let mut found = false;
-    for b in 0..s.constants {
-        found = found | clashes_with(s, reps, first, b);
-    }
-    found
+    (0..s.constants).any(|b| clashes_with(s, reps, first, b))
 }

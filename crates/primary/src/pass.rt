@@ -32,22 +32,11 @@ pub fn pass(
     unify_all(schema, edges, reps, sets);
 }
 
-fn wide(x: u32) -> u64
-    ensures { result ≡ x }
-{
-    x as u64
-}
-
 fn total(l: &[u32]) -> u64
     requires { length l.now ≤ max_nodes }
     ensures { Sum l.now result }
 {
-    let n = l.len();
-    let mut sum = 0;
-    for i in 0..n {
-        sum += wide(l[i]);
-    }
-    sum
+    l.iter().map(|x| u64::from(*x)).sum()
 }
 
 pub fn weight(reps: &[u32], sets: &[u32]) -> u64

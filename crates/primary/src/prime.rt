@@ -3,19 +3,12 @@ ghost use Rattle.std.specs.Prelude.{◌≡◌, map, ◌<◌, length};
 ghost use Rattle.chase.specs.Primary.{set_of, add as add_to, join as join_in, merge as merge_in};
 ghost use Rattle.primary.specs.Formed.{prime, moved as moved_to, Formed, Becomes};
 
-pub fn wide(x: u32) -> usize
-    ensures { result ≡ x }
-{
-    x as usize
-}
-
 // The classes of a node: those at its representative.
 pub fn set_of(reps: &[u32], sets: &[u32], n: usize) -> u32
     requires { Formed reps.now sets.now × (n < length reps.now) }
     ensures { result ≡ set_of (prime reps.now sets.now) n }
 {
-    let at = wide(reps[n]);
-    sets[at]
+    sets[reps[n] as usize]
 }
 
 // More classes at a node.
@@ -23,8 +16,7 @@ pub fn add(reps: &[u32], sets: &mut [u32], n: usize, c: u32)
     requires { Formed reps.now sets.old × (n < length reps.now) }
     ensures { Becomes (length reps.now) reps.now sets.new (add_to n c (prime reps.now sets.old)) }
 {
-    let at = wide(reps[n]);
-    sets[at] |= c;
+    sets[reps[n] as usize] |= c;
 }
 
 fn moved(low: u32, high: u32, rep: u32) -> u32
@@ -36,9 +28,8 @@ fn moved(low: u32, high: u32, rep: u32) -> u32
 fn move_all(reps: &mut [u32], low: u32, high: u32)
     ensures { reps.new ≡ map (moved_to low high) reps.old }
 {
-    let n = reps.len();
-    for i in 0..n {
-        reps[i] = moved(low, high, reps[i]);
+    for rep in reps.iter_mut() {
+        *rep = moved(low, high, *rep);
     }
 }
 
@@ -48,9 +39,7 @@ fn join(reps: &mut [u32], sets: &mut [u32], low: u32, high: u32)
     ensures { Becomes (length reps.old) reps.new sets.new (join_in low high (prime reps.old sets.old)) }
 {
     move_all(reps, low, high);
-    let from = wide(low);
-    let to = wide(high);
-    sets[to] |= sets[from];
+    sets[high as usize] |= sets[low as usize];
 }
 
 // The two nodes are one object. The higher representative stays.
@@ -60,12 +49,7 @@ pub fn merge(reps: &mut [u32], sets: &mut [u32], n: usize, m: usize)
 {
     let a = reps[n];
     let b = reps[m];
-    if a < b {
-        join(reps, sets, a, b);
-        return;
-    }
-    if b < a {
-        join(reps, sets, b, a);
-        return;
+    if a != b {
+        join(reps, sets, a.min(b), a.max(b));
     }
 }

@@ -16,7 +16,6 @@ use classes::collect::{single_mask, values};
 use classes::domains::domain_at;
 use classes::sets::{meets, place};
 use records::concept::Query;
-use records::layout::wide;
 use records::schema::{MAX_ATTRIBUTES, MAX_CONSTANTS};
 
 // A part of a fact is below this.
@@ -29,9 +28,8 @@ pub fn equate_all(ties: &[u16], reps: &mut [u32], sets: &mut [u32])
     requires { Formed reps.old sets.old × TiesIn (length reps.old) ties.now }
     ensures { Becomes (length reps.old) reps.new sets.new (each equate (map tie_of ties.now) (prime reps.old sets.old)) }
 {
-    let n = ties.len();
-    for i in 0..n {
-        let w = wide(ties[i]);
+    for word in ties {
+        let w = usize::from(*word);
         merge(reps, sets, w / PART, w % PART);
     }
 }
@@ -40,9 +38,8 @@ pub fn assert_all(members: &[u16], reps: &[u32], sets: &mut [u32])
     requires { Formed reps.now sets.old × MembersIn (length reps.now) members.now }
     ensures { Becomes (length reps.now) reps.now sets.new (each assert (map member_of members.now) (prime reps.now sets.old)) }
 {
-    let n = members.len();
-    for i in 0..n {
-        let w = wide(members[i]);
+    for word in members {
+        let w = usize::from(*word);
         add(reps, sets, w % PART, place(w / PART));
     }
 }
@@ -51,8 +48,7 @@ pub fn lift_all(schema: &[u16], table: &[u32; MAX_ATTRIBUTES], reps: &[u32], set
     requires { AcceptedSchema schema.now × DomainTable schema.now table.now × Formed reps.now sets.old }
     ensures { Becomes (length reps.now) reps.now sets.new (upto (lift (schema_of schema.now)) (length reps.now) (prime reps.now sets.old)) }
 {
-    let n = reps.len();
-    for i in 0..n {
+    for i in 0..reps.len() {
         let raised = raise(schema, table, set_of(reps, sets, i));
         add(reps, sets, i, raised);
     }
@@ -86,9 +82,8 @@ pub fn type_all(
     requires { AcceptedSchema schema.now × DomainTable schema.now table.now × Formed reps.now sets.old × EdgesIn (length reps.now) edges.now }
     ensures { Becomes (length reps.now) reps.now sets.new (each (type_edge (schema_of schema.now)) (map edge_of edges.now) (prime reps.now sets.old)) }
 {
-    let n = edges.len();
-    for i in 0..n {
-        type_edge(schema, table, wide(edges[i]), reps, sets);
+    for word in edges {
+        type_edge(schema, table, usize::from(*word), reps, sets);
     }
 }
 
@@ -101,10 +96,7 @@ fn rival(schema: &[u16], e: usize, f: usize, reps: &[u32], sets: &[u32]) -> bool
     let origin = e / PART % PART;
     let other = f / PART % PART;
     let together = (attribute == f / PART / PART) & (reps[origin] == reps[other]);
-    if !together {
-        return false;
-    }
-    meets(set_of(reps, sets, origin), single_mask(schema, attribute))
+    together && meets(set_of(reps, sets, origin), single_mask(schema, attribute))
 }
 
 // Most pairs are not rivals, or have one target already: the axioms are read only for the others.
@@ -112,12 +104,8 @@ fn unify(schema: &[u16], e: usize, f: usize, reps: &mut [u32], sets: &mut [u32])
     requires { AcceptedSchema schema.now × Formed reps.old sets.old × EdgeIn (length reps.old) e × EdgeIn (length reps.old) f }
     ensures { Becomes (length reps.old) reps.new sets.new (unify_in (schema_of schema.now) (edge_of e) (edge_of f) (prime reps.old sets.old)) }
 {
-    if reps[e % PART] == reps[f % PART] {
-        return;
-    }
-    if rival(schema, e, f, reps, sets) {
+    if reps[e % PART] != reps[f % PART] && rival(schema, e, f, reps, sets) {
         merge(reps, sets, e % PART, f % PART);
-        return;
     }
 }
 
@@ -125,9 +113,8 @@ fn unify_row(schema: &[u16], edges: &[u16], e: usize, reps: &mut [u32], sets: &m
     requires { AcceptedSchema schema.now × Formed reps.old sets.old × EdgeIn (length reps.old) e × EdgesIn (length reps.old) edges.now }
     ensures { Becomes (length reps.old) reps.new sets.new (unify_row (schema_of schema.now) (map edge_of edges.now) (edge_of e) (prime reps.old sets.old)) }
 {
-    let n = edges.len();
-    for i in 0..n {
-        unify(schema, e, wide(edges[i]), reps, sets);
+    for word in edges {
+        unify(schema, e, usize::from(*word), reps, sets);
     }
 }
 
@@ -135,8 +122,7 @@ pub fn unify_all(schema: &[u16], edges: &[u16], reps: &mut [u32], sets: &mut [u3
     requires { AcceptedSchema schema.now × Formed reps.old sets.old × EdgesIn (length reps.old) edges.now }
     ensures { Becomes (length reps.old) reps.new sets.new (each (unify_row (schema_of schema.now) (map edge_of edges.now)) (map edge_of edges.now) (prime reps.old sets.old)) }
 {
-    let n = edges.len();
-    for i in 0..n {
-        unify_row(schema, edges, wide(edges[i]), reps, sets);
+    for word in edges {
+        unify_row(schema, edges, usize::from(*word), reps, sets);
     }
 }

@@ -1,5 +1,4 @@
 -- The nodes passed have been lifted.
-use Prim.Native.Nat.{◌≤◌}
 use lib.ListN.{length}
 use Rattle.records.specs.SchemaRecord.{schema_of}
 use Rattle.records.specs.Helpers.Loops.{upto}
@@ -9,4 +8,4 @@ use Rattle.primary.proofs.rules.lift_all.Given as goal
 
 abbrev pub invariant-loop-i : goal.invariant-loop-i
 invariant-loop-i l =
-    (l.i ≤ l.n) × Becomes (length l.reps) l.reps l.sets (upto (lift (schema_of l.schema)) l.i (prime l.reps l.initial.sets))
+    Becomes (length l.reps) l.reps l.sets (upto (lift (schema_of l.schema)) l.i (prime l.reps l.initial.sets))
