@@ -14,14 +14,6 @@ use Rattle.candidate.proofs.marks.mark_facts.Goals as goal
 pub loop-k-init : goal.loop-k-init
 loop-k-init c = (omega arith, turn_none _ _ _)
 
-pub bounds-nodes-k : goal.bounds-nodes-k
-bounds-nodes-k c = omega (arith, c.requires.inside.2.room)
-
-pub object_of-d-requires : goal.object_of-d-requires
-object_of-d-requires c =
-    let p = c.requires.inside in
-    (p.0, rw c.from.ensures (p.2.inside _ c.loop-k-test.true))
-
 pub fact-requires : goal.fact-requires
 fact-requires c =
     let p = c.requires.inside in
@@ -43,9 +35,6 @@ loop-k-preserved c = (
       (c.fact.ensures ∙ ap (mark_fact _) (c.object_of-d.ensures ∙ ap (object_in _) c.from.ensures)))
       c.put_if-at.ensures),
 )
-
-pub shape_of-out : goal.shape_of-out
-shape_of-out c = c.loop-k.invariant.1.size
 
 pub returns : goal.returns
 returns c = turn_all _ _ _ _ _ _ _ (le_antisymm c.loop-k.invariant.0 c.loop-k-test.false) c.loop-k.invariant.1

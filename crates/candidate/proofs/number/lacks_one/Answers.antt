@@ -1,11 +1,10 @@
 -- Some object lacks a value.
 use borrow.Author.Rules.{rules}
 use native.Mathlib.Omega.{arith}
-use Prim.Native.Nat.{ℕ, ◌<◌}
+use Prim.Native.Nat.{ℕ}
 use mathlib.Core.Bool.{Bool, false, ◌&&◌, ◌||◌, not}
 use mathlib.Core.Path.{◌∙◌, sym, refl}
 use Rattle.std.proofs.Common.{tests}
-use Rattle.std.proofs.lemmas.Iterator.{serves_from_Range}
 use Rattle.std.specs.Prelude.{None, is_some}
 use lib.ListN.{get_or}
 use Rattle.chase.specs.ClassSet.{meets}
@@ -15,12 +14,6 @@ use Rattle.forest.proofs.ObjectLaws.{size_laid, classes_laid}
 use Rattle.candidate.proofs.SearchLaws.{lacks_any}
 use Rattle.candidate.proofs.TableLaws.{lacks_is, looked_up}
 use Rattle.candidate.proofs.number.lacks_one.Goals as goal
-
-pub any-requires-clause-callable : goal.any-requires-clause-callable
-any-requires-clause-callable c = serves_from_Range (λ x q k. search rules) (λ x a b.
-    let sets = c.requires.sets x b in
-    let few : x < 480 = omega (arith, c.requires.laid.fits) in
-    search rules)
 
 pub returns : goal.returns
 returns c = λ S m.

@@ -10,12 +10,6 @@ use Rattle.candidate.proofs.WriteLaws.{room_as, wrote_as, turn_none, turn_room, 
 use Rattle.forest.proofs.ObjectLaws.{size_laid}
 use Rattle.candidate.proofs.pairs.pair_row.Goals as goal
 
-pub needs_mask-mask-requires : goal.needs_mask-mask-requires
-needs_mask-mask-requires c = c.requires.sized.0.legal
-
-pub kids-made-requires : goal.kids-made-requires
-kids-made-requires c = c.requires.sized.0.kept
-
 pub loop-d-init : goal.loop-d-init
 loop-d-init c = (omega arith, turn_none _ _ _)
 
@@ -30,12 +24,6 @@ asked_facts-linked-requires c = let p = c.requires.sized in record {
   room = room_as _ _ _ _ (link_any _ c.args.objects.now c.args.edges.now _ _)
       (pair_room _ _ _ _ _ _ _ (turn_room _ _ _ _ _ _ _ c.loop-d-test.true c.requires.room c.loop-d.invariant.1));
 }
-
-pub bounds-made-d : goal.bounds-made-d
-bounds-made-d c = omega (arith, c.requires.sized.0.small)
-
-pub value_of-value-requires : goal.value_of-value-requires
-value_of-value-requires c = let p = c.requires.sized in (p.0.legal, p.0.kept, omega (arith, p.0.closing))
 
 pub value_facts-at-requires : goal.value_facts-at-requires
 value_facts-at-requires c =
@@ -55,9 +43,6 @@ value_facts-at-requires c =
           (turn_room _ _ _ _ _ _ _ c.loop-d-test.true c.requires.room c.loop-d.invariant.1);
     }
 
-pub overflow_step-d : goal.overflow_step-d
-overflow_step-d c = omega (arith, c.requires.sized.0.small)
-
 pub loop-d-preserved : goal.loop-d-preserved
 loop-d-preserved c =
     let value = c.value_of-value.ensures c.args.edges.now c.args.attribute
@@ -70,9 +55,6 @@ loop-d-preserved c =
           (wrote_as _ _ _ _ _ _ (link_any _ c.args.objects.now c.args.edges.now _ _) c.asked_facts-linked.ensures) value _ _
           c.value_facts-at.ensures),
     )
-
-pub shape_of-out : goal.shape_of-out
-shape_of-out c = c.loop-d.invariant.1.size
 
 pub returns : goal.returns
 returns c = turn_all _ _ _ _ _ _ _ (le_antisymm c.loop-d.invariant.0 c.loop-d-test.false) c.loop-d.invariant.1

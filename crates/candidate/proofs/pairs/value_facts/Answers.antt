@@ -1,6 +1,5 @@
 -- One pair, or none.
 use borrow.Author.Rules.{rules}
-use Rattle.candidate.proofs.WriteLaws.{wrote_none}
 use Rattle.candidate.proofs.PairLaws.{value_room, value_on}
 use Rattle.candidate.specs.Writing.{Room}
 use Rattle.candidate.proofs.pairs.value_facts.Goals as goal
@@ -18,6 +17,3 @@ overflow_add-result c = search rules
 
 pub returns-in-Some : goal.returns-in-Some
 returns-in-Some c = rw c.in-Some.is (value_on _ _ _ _ _ _ c.fact.ensures (rw c.in-Some.is at c.requires.room))
-
-pub returns-in-None : goal.returns-in-None
-returns-in-None c = rw c.in-None.is (wrote_none _ _)
