@@ -85,20 +85,21 @@ module _ (g : ℕ) (objects : List ℕ) (P d : ℕ) where
       pub below_more : (get_or objects (e - 1) 0 % link_part ≡ link P d → ⊥) → Below (e - 1) n
       below_more q edges = turn false (unlinked (get_or objects (e - 1) 0) P d q) edges
 
+-- the library's search of a list is the one of the model
+pub any_listed : {A : Type 0} (test : A → Bool) (l : List A) → list_any test l ≡ any_of test l
+unfolding any_of
+any_listed test [] = refl
+any_listed test (a ∷ l) = ap (λ (b : Bool). test a || b) (any_listed test l)
+
 -- the query's pairs
 module _ (l : List ℕ) (P d : ℕ) where
   -- the test of one edge
   abbrev pub from : ℕ → Bool
   from w = eqb (edge_of w).attribute P && eqb (edge_of w).origin d
 
-  some_of : (m : List ℕ) → list_any from m ≡ any_of from m
-  unfolding any_of
-  some_of [] = refl
-  some_of (w ∷ m) = ap (λ (b : Bool). from w || b) (some_of m)
-
   pub asks_words : (g : ℕ) (objects : List ℕ) → list_any from l ≡ asks (ground_in g objects l) P d
   unfolding asks
-  asks_words g objects = some_of l ∙ sym (any_map (λ e. eqb e.attribute P && eqb e.origin d) edge_of l)
+  asks_words g objects = any_listed from l ∙ sym (any_map (λ e. eqb e.attribute P && eqb e.origin d) edge_of l)
 
 -- the mask of all classes, shifted in a word of 32 bits
 module _ (w : List ℕ) (ok : AcceptedSchema w) (k : ℕ) (q : k ≡ (schema_of w).signature.classes) where
