@@ -19,6 +19,7 @@ SOURCE = {name: "".join((ROOT / "crates" / path).read_text() for path in paths.s
     "schema": "records/src/schema.rt check_schema/src/lib.rt", "state": "records/src/state.rt check_state/src/lib.rt",
     "concept": "records/src/token.rt check_concept/src/sorts.rt records/src/marks.rt records/src/concept.rt check_concept/src/lib.rt",
     "named": "records/src/named.rt check_concept/src/named.rt", "check": "check_concept/src/check.rt",
+    "refusal": "records/src/refusal.rt",
     "select": "judge/src/select.rt", "legal": "judge/src/legal.rt", "counterexample": "judge/src/counterexample.rt",
     "links": "links/src/lib.rt", "decide": "decide/src/lib.rt", "holds": "decide/src/holds.rt",
     "catalogue": "check_catalogue/src/lib.rt catalogue/src/check.rt"}.items()}
@@ -56,7 +57,7 @@ def evaluated(definitions):
 
 
 # The roles of concepts: the most steps, and the set of marks.
-ROLES = re.findall(r"impl (\w+) \{\s*pub const STEPS: usize = (\d+);\s*pub const MARKS: u32 = (\d+);", SOURCE["concept"])
+ROLES = re.findall(r"impl Role for (\w+) \{\s*const STEPS: usize = (\d+);\s*const MARKS: u32 = (\d+);", SOURCE["concept"])
 CODE = evaluated([(name, "", text) for name, text in re.findall(r"^(?:pub )?const (\w+): usize = ([^;]+);", "".join(SOURCE.values()), re.M)])
 C = evaluated([
     *re.findall(r"#define (\w+)(?:\((\w+)\))? (.+)", HEADER.replace("BIKUVOA_", "")),
@@ -126,7 +127,8 @@ def numbered(rows, source, decoder, check, word):
 
 def stack_move(token):
     """What the check takes off its stack of sorts, the top first, and puts there: 0 is a concept, 1 a path."""
-    call, given = re.search(rf"Token::{token}\S* => self\.(\w+)\((.*)\)", function("concept", "push")).groups()
+    arms = re.findall(r"((?:Token::\w+(?:\(_\))?(?: \| )?)+) => (?:\{\s*)?(?:Some\()?self\.(\w+)\(([\d, ]*)\)", function("concept", "push"))
+    call, given = next((call, given) for names, call, given in arms if token in re.findall(r"Token::(\w+)", names))
     if call == "put":
         takes, puts = [], int(given)
     elif call == "reach":
@@ -188,17 +190,19 @@ def sets(rows):
 
 
 def looked_at(source, name):
-    """What a function checks, in order, with what it leaves to its file's `check` in that one's place. The check of a concept in some
-    role is that of a concept, with the role's limit and marks."""
-    found = re.findall(r"(?<!fn )\bcheck(?:\(|_\w+)|\w+::STEPS|\w+::MARKS|lent\.len|attribute_number|Refused\(\d+\)", function(source, name))
-    left = {"check(": (source, "check"), **{f"check_{role.lower()}": ("concept", f"check_{role.lower()}") for role, *_ in ROLES}}
-    return [look for part in found for look in (looked_at(*left[part]) if part in left else [part])]
+    """What a function checks, in order, with what it leaves to its file's `check` in that one's place."""
+    found = re.findall(r"(?<!fn )\bcheck(?:\(|_\w+(?:::<\w+>)?)|lent\.len|Refusal::\w+", function(source, name).split("{", 1)[1])
+    return [look for part in found for look in (looked_at(source, "check") if part == "check(" else [part])]
+
+
+# The refusals with their numbers.
+REFUSALS = {name: int(n) for name, n in re.findall(r"^ +(\w+) = (\d+),", SOURCE["refusal"], re.M)}
 
 
 def given(record):
-    """The numbers that a record's check gives, in its order: its own, then those of `answer`, with which it ends."""
-    numbers = dict(re.findall(r"Answer::(\w+)\S* => (\w+),", function(record, "number")))
-    return [value(numbers[name]) for part in (f"check_{record}", "answer") for name in re.findall(r"Answer::(\w+)", function(record, part))]
+    """The numbers that a record's check gives, in its order: of a concept those of its tokens, and then those of `answer`."""
+    parts = ("check_tokens", "answer") if record == "concept" else (f"check_{record}",)
+    return [REFUSALS[name] for part in parts for name in re.findall(r"Refusal::(\w+)", function(record, part))]
 
 
 def refusals(rows, orders, lent):
@@ -214,25 +218,27 @@ def refusals(rows, orders, lent):
     checked = {"concept": page["concept"], **{record: [int(n) for n in re.findall(r"\d+", numbers)] for record, numbers in told}}
     for record in ("schema", "concept", "state"):
         hold(f"refusals of a {record} by number", page[record], sorted(checked[record]))
-        code = re.findall(r"=> (\w+),", function(record, "number"))
-        hold(f"refusals of a {record}", [0, *checked[record]], [value(n) for n in code])
-        hold(f"refusals of a {record} as they are given", [*checked[record], 0], given(record))
+        hold(f"refusals of a {record}", page[record], sorted(n for name, n in REFUSALS.items() if name.startswith(record.capitalize())))
+        hold(f"refusals of a {record} as they are given", checked[record], given(record))
     hold("functions", [row[0] for row in orders], re.findall(r"^uint16_t bikuvoa_(\w+)\(", HEADER, re.M))
     hold("functions with lent words", [row[0] for row in lent], [entry for entry, text in orders if "lent words" in text])
-    hold("refusals of a catalogue", ["bad_layout", *(f"return {n}" for n in page["catalogue"]), "check_view"],
-         re.findall(r"bad_layout|return \d+|check_view", function("catalogue", "check_catalogue")))
-    hold("refusals of an attribute", [*page["attribute"], 0], [value(n) for n in re.findall(r"{ (\d+) }", function("links", "attribute_number"))])
+    hold("refusals of a catalogue", ["bad_layout", *page["catalogue"], "check_concept::<View>"],
+         [REFUSALS.get(look.removeprefix("Refusal::"), look)
+          for look in re.findall(r"bad_layout|Refusal::(?!Catalogue\b)\w+|check_concept::<\w+>", function("catalogue", "check_catalogue").split("{", 1)[1])])
+    hold("refusals of an attribute", page["attribute"], [REFUSALS["Attribute"]])
     least, most, more = map(int, re.search(r"Their refusals are (\d+) to (\d+) and (\d+)", text).groups())
     hold("refusals of a concept by itself", [*range(least, most + 1), more], sorted(page["schema"] + page["concept"]))
-    looks = {"lent words": ["lent.len", *(f"Refused({n})" for n in page["lent words"])], "attribute": ["attribute_number"],
-             **{place: looked_at("concept", f"check_{place.split()[0]}") for place in ("plain query", "query", "view")}}
+    hold("refusals for lent words", page["lent words"], [REFUSALS["LentWords"]])
+    looks = {"lent words": ["lent.len", "Refusal::LentWords"], "attribute": ["Refusal::Attribute"],
+             **{place: [f"check_concept::<{place.split()[0].capitalize()}>"] for place in ("plain query", "query", "view")}}
     for entry, text in orders:
-        source, _, name = {"check_concept": "check_plain", "catalogue": "catalogue_refusal"}.get(entry, entry).partition("_")
-        # Of a catalogue only the entry for C is lent words.
+        source, _, name = {"catalogue": "catalogue_check"}.get(entry, entry).partition("_")
+        # A concept is checked in the role that the entry for C names. Of a catalogue only that entry is lent words.
+        role = re.search(rf"fn bikuvoa_{entry}\([^}}]*?\bcheck::<(\w+)>", ENTRIES)
         parts = text.removesuffix(", lent words" if entry == "catalogue" else "").split(", ")
         hold(f"checks of {entry}", [look for part in parts for look in looks.get(part, [f"check_{part}"])],
-             looked_at(source, name or entry))
-    hold("refusals by the entries for C", page["lent words"], [int(n) for n in re.findall(r"(?:return |Refused\()(\d+)", ENTRIES)])
+             [look.replace("<R>", f"<{role.group(1)}>") if role else look for look in looked_at(source, "check" if role else name or entry)])
+    hold("refusals by the entries for C", page["lent words"], [REFUSALS[name] for name in re.findall(r"Refusal::(\w+)", ENTRIES)])
 
 
 def lent_words(rows, answer):
