@@ -5,7 +5,7 @@ ghost use Rattle.forest.specs.Kept.{Kept, number};
 ghost use Rattle.forest.specs.Places.{max_places, standing, Stands, Ready, Begins, Hopped, Pushed, Follows};
 
 use crate::objects::{OBJECTS, kid, parent};
-use records::concept::View;
+use records::concept::{Role, View};
 
 // Each step leaves at most one made object more on the list.
 const PLACES: usize = View::STEPS;

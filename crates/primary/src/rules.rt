@@ -15,7 +15,7 @@ use classes::closure::raise;
 use classes::collect::{single_mask, values};
 use classes::domains::domain_at;
 use classes::sets::{meets, place};
-use records::concept::Query;
+use records::concept::{Query, Role};
 use records::schema::{MAX_ATTRIBUTES, MAX_CONSTANTS};
 
 // A part of a fact is below this.
