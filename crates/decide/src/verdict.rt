@@ -69,21 +69,11 @@ fn answer_of(
     ensures verdict { max_state_words ≤ length lent.old → Verdict schema.now query.now view.now lent.old result lent.new }
 {
     let mut objects = [0u64; OBJECTS];
-    let made = candidate(schema, query, view, reps, &mut objects);
-    if made.clashes {
+    let Some(made) = candidate(schema, query, view, reps, &mut objects) else {
         return DecideAnswer::Held;
-    }
-    let edges = made.edges.words;
-    let count = made.edges.count;
-    answer_in(
-        schema,
-        view,
-        reps,
-        &edges[..count],
-        &objects,
-        made.shape,
-        lent,
-    )
+    };
+    let edges = made.edges.as_slice();
+    answer_in(schema, view, reps, edges, &objects, made.shape, lent)
 }
 
 // The answer, and the state that shows it if it is open and there is room.
