@@ -8,20 +8,11 @@ use std::fs;
 use std::io::Read;
 use std::rt::Files;
 
-fn join(low: u8, high: u8) -> u16
-    ensures { result ≡ low + 256 * high }
-{
-    low as u16 + 256 * (high as u16)
-}
-
 // How many words the bytes give: all, or none.
 fn words_of(bytes: usize, room: usize) -> usize
     ensures { IsCount bytes room result }
 {
-    if bytes % 2 != 0 {
-        return 0;
-    }
-    if room < bytes / 2 {
+    if bytes % 2 != 0 || room < bytes / 2 {
         return 0;
     }
     bytes / 2
@@ -32,7 +23,7 @@ pub fn decode(bytes: &[u8], words: &mut [u16]) -> usize
 {
     let n = words_of(bytes.len(), words.len());
     for i in 0..n {
-        words[i] = join(bytes[2 * i], bytes[2 * i + 1]);
+        words[i] = u16::from_le_bytes([bytes[2 * i], bytes[2 * i + 1]]);
     }
     n
 }
