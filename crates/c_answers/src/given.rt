@@ -47,13 +47,14 @@ pub fn give_named(
 ) -> u16
     ensures { GivenTo (λ x. x) answer (record { classes = classes.old; attributes = attributes.old; count = named.old }) result (record { classes = classes.new; attributes = attributes.new; count = named.new }) }
 {
-    match answer {
-        Ok(names) => {
-            *classes = names.classes;
-            *attributes = names.attributes;
-            *named = names.count;
-            0
-        }
-        Err(refusal) => u16::from(refusal),
-    }
+    let mut names = Named {
+        classes: *classes,
+        attributes: *attributes,
+        count: *named,
+    };
+    let number = give(answer, &mut names);
+    *classes = names.classes;
+    *attributes = names.attributes;
+    *named = names.count;
+    number
 }
