@@ -1,14 +1,19 @@
 -- What the loops over words keep. A row is some words side by side, so a bit of it is a bit of one of these words.
-use Prim.Native.Nat.{ℕ, ◌+◌, ◌*◌, ◌/◌, ◌%◌, ◌≤◌, ◌<◌}
+use Prim.Native.Nat.{ℕ, zero, suc, ◌+◌, ◌-◌, ◌*◌, ◌/◌, ◌%◌, ◌≤◌, ◌<◌}
 use mathlib.Core.Bool.{Bool, So, ◌&&◌, ◌||◌, and_self}
-use mathlib.Core.List.{List}
-use mathlib.Core.Path.{◌≡◌, refl, sym, ap, ap₂, ◌∙◌}
+use mathlib.Core.List.{List, ◌++◌}
+use mathlib.Core.Path.{◌≡◌, refl, sym, ap, ap₂, subst, ◌∙◌}
 use native.Mathlib.Decide.{ℕ_discrete, dec_lt}
 use native.Mathlib.Omega.{arith}
 use borrow.Author.Tests.{lt-ltb, le-ltb, ltb-true, eq-eqb, eqb-true}
 use lib.Bits.{bit_and}
 use lib.Dec.{eqb, ltb}
-use lib.ListN.{length, length-set, get_or, set, replicate}
+use lib.ListN.{length, length-set, length-append, length-take, length-drop, get_or, set, take, drop, replicate}
+use borrow.Rule.Slice.PartMut.{put_mid}
+use denote.Param.Members.{Mut}
+use Rattle.std.specs.Fn.{Called}
+use Rattle.std.specs.Array.{IsFromFnResult, IsFromFnResultFrom}
+use Rattle.std.proofs.lemmas.List.{get_or_append_left, get_or-append_right, get_or-take, get_or-drop}
 use lib.Seq.{get_or-set_same, get_or-set_other}
 use Rattle.records.proofs.General.BoolLaws.{or_true_cases, or_left, or_right, test_same}
 use mathlib.Core.Logic.{⊎_elim}
@@ -42,6 +47,46 @@ module _ {f : ℕ → ℕ} {base : ℕ} {ws : List ℕ} where
   pub filled_all : {n m : ℕ} {vs : List ℕ} → Filled f base n ws vs → n ≤ m → m ≤ n → Filled f base m ws vs
   filled_all {n} {m} z l h = let e : n ≡ m = omega arith in rw (← e) z
 
+-- Words copied into a part.
+pub filled_part : {ws part : List ℕ} (a n k : ℕ) (l : List ℕ) → k ≡ n → part ≡ l → length l ≡ n → a + n ≤ length ws
+    → Filled (λ i. get_or l i 0) a n ws (put_mid a k ws part)
+filled_part {ws} {part} a n k l e p q room = rw (p, e) (record { size = long; done = here; kept = λ j h. pick j h (dec_lt j a) (dec_lt j (a + n)) })
+  where
+    end : List ℕ
+    end = drop n (drop a ws)
+
+    front : length (take a ws) ≡ a
+    front = omega (arith, length-take a ws)
+
+    long : length (take a ws ++ (l ++ end)) ≡ length ws
+    long = simp length-append (omega (arith, front, length-drop a ws, length-drop n (drop a ws)))
+
+    here : (i : ℕ) → i < n → get_or (take a ws ++ (l ++ end)) (a + i) 0 ≡ get_or l i 0
+    here i m =
+        get_or-append_right (take a ws) (l ++ end) a (a + i) 0 front (omega arith)
+        ∙ ap (λ (j : ℕ). get_or (l ++ end) j 0) (omega arith) ∙ get_or_append_left l end 0 i (omega arith)
+
+    pick : (j : ℕ) → ((i : ℕ) → i < n → j ≡ a + i → ⊥) → Dec (j < a) → Dec (j < a + n) → get_or (take a ws ++ (l ++ end)) j 0 ≡ get_or ws j 0
+    pick j h (yes m) d = get_or_append_left (take a ws) (l ++ end) 0 j (omega (arith, front)) ∙ get_or-take a ws j 0 m
+    pick j h (no m) (yes t) = absurd (h (j - a) (omega arith) (omega arith))
+    pick j h (no m) (no t) =
+        get_or-append_right (take a ws) (l ++ end) a j 0 front (omega arith) ∙ get_or-append_right l end n (j - a) 0 q (omega arith)
+        ∙ get_or-drop n (drop a ws) (j - a - n) 0 ∙ get_or-drop a ws (n + (j - a - n)) 0 ∙ ap (λ (i : ℕ). get_or ws i 0) (omega arith)
+
+-- A list that calls made, number by number.
+module _ {F : Type 0} {g : Mut F (ℕ × Unit {0}) ℕ} {f : F} (h : ℕ → ℕ) (vs : List ℕ) (call : (i x : ℕ) (q : F) → Called g f (i, tt) x q → (q ≡ f) × (x ≡ h i)) where
+  made_from : (n i : ℕ) (p : F) → p ≡ f → IsFromFnResultFrom g p vs i n → (k : ℕ) → i ≤ k → k < i + n → get_or vs k 0 ≡ h k
+  made_from zero i p e w k a b = absurd (omega arith)
+  made_from (suc n) i p e (q, x, is, c, rest) k a b =
+      let told : (q ≡ f) × (x ≡ h i) = call i x q (subst (λ (r : F). Called g r (i, tt) x q) e c) in
+      elim (ℕ_discrete k i) [
+        | yes s ↦ ap (λ (j : ℕ). get_or vs j 0) s ∙ is.1 0 ∙ told.1 ∙ ap h (sym s)
+        | no s ↦ made_from n (i + 1) q told.0 rest k (omega arith) (omega arith)
+      ]
+
+  pub made : {n : ℕ} → IsFromFnResult g f vs n → (k : ℕ) → k < n → get_or vs k 0 ≡ h k
+  made {n} z k l = made_from n 0 f refl z.each k (omega arith) (omega arith)
+
 -- Rows.
 
 pub row_word : (ws : List ℕ) (t o : ℕ) → row_bit ws t o ≡ bit (get_or ws (t * set_words + o / word_bits) 0) (o % word_bits)
@@ -66,12 +111,12 @@ put_of {ws} {r} {set} {vs} z =
 abbrev pub shared_word : List ℕ → List ℕ → ℕ → ℕ → ℕ
 shared_word ps qs t i = bit_and (get_or ps (t * set_words + i) 0) (get_or qs (t * set_words + i) 0)
 
-pub shared_row_of : {ps qs : List ℕ} {t : ℕ} {ws vs : List ℕ} → length ws ≡ set_words → Filled (shared_word ps qs t) 0 set_words ws vs → SharedRow ps qs t vs
+pub shared_row_of : {ps qs : List ℕ} {t : ℕ} {vs : List ℕ} → length vs ≡ set_words → ((i : ℕ) → i < set_words → get_or vs i 0 ≡ shared_word ps qs t i) → SharedRow ps qs t vs
 unfolding bit_at
-shared_row_of {ps} {qs} {t} {ws} {vs} e z =
+shared_row_of {ps} {qs} {t} {vs} e z =
     record {
-      size = z.size ∙ e;
-      bits = λ o l. ap (λ (x : ℕ). bit x (o % word_bits)) (ap (λ (i : ℕ). get_or vs i 0) (omega arith) ∙ z.done (o / word_bits) (omega arith))
+      size = e;
+      bits = λ o l. ap (λ (x : ℕ). bit x (o % word_bits)) (z (o / word_bits) (omega arith))
           ∙ word_and _ _ (o % word_bits) ∙ ap₂ (λ (a b : Bool). a && b) (sym (row_word ps t o)) (sym (row_word qs t o));
     }
 

@@ -12,7 +12,7 @@ pub fn blocks_for(n: usize) -> usize
     requires { n ≤ object_part }
     ensures { result ≡ blocks_for n }
 {
-    (n + (BLOCK_BITS - 1)) / BLOCK_BITS
+    n.div_ceil(BLOCK_BITS)
 }
 
 // Puts block `q` into block `p`. Both its words are read before the first is written, so that they go at once.
@@ -49,9 +49,8 @@ fn join(rows: &mut [u64], r: usize, set: &[u64; SET_WORDS])
     requires set_len { length set.now ≡ set_words }
     ensures { Joined rows.old r set.now rows.new }
 {
-    for j in 0..SET_WORDS {
-        let i = r * SET_WORDS + j;
-        rows[i] = rows[i] | set[j];
+    for (j, word) in set.iter().enumerate() {
+        rows[r * SET_WORDS + j] |= *word;
     }
 }
 

@@ -16,12 +16,8 @@ pub fn shared_row(ps: &[u64], qs: &[u64], t: usize) -> [u64; SET_WORDS]
     requires set_words_in_bounds_2 { t * set_words + set_words ≤ length qs.now }
     ensures { SharedRow ps.now qs.now t result }
 {
-    let mut out = [0u64; SET_WORDS];
-    for j in 0..SET_WORDS {
-        let k = t * SET_WORDS + j;
-        out[j] = ps[k] & qs[k];
-    }
-    out
+    let at = t * SET_WORDS;
+    std::array::from_fn(|j| ps[at + j] & qs[at + j])
 }
 
 // The set becomes row `r` of `ws`.
@@ -30,10 +26,8 @@ pub fn put(ws: &mut [u64], r: usize, set: &[u64; SET_WORDS])
     requires set_len { length set.now ≡ set_words }
     ensures { Put ws.old r set.now ws.new }
 {
-    for j in 0..SET_WORDS {
-        let i = r * SET_WORDS + j;
-        ws[i] = set[j];
-    }
+    let at = r * SET_WORDS;
+    ws[at..at + SET_WORDS].copy_from_slice(set);
 }
 
 // The objects that the facts of a kind name: these facts alone are looked at.

@@ -6,10 +6,10 @@ use native.Mathlib.Omega.{arith}
 use Rattle.rows.proofs.blocks.join.Goals as goal
 
 pub loop-j-init : goal.loop-j-init
-loop-j-init c = (omega arith, filled_none)
+loop-j-init c = filled_none
 
 pub loop-j-preserved : goal.loop-j-preserved
-loop-j-preserved c = (omega arith, filled_more c.loop-j.invariant.1 refl (omega arith) (joining_word c.args.r c.args.set.now c.loop-j.invariant.1))
+loop-j-preserved c = filled_more c.loop-j.invariant refl (omega arith) (joining_word c.args.r c.args.set.now c.loop-j.invariant)
 
 pub returns : goal.returns
-returns c = joined_of (filled_all c.loop-j.invariant.1 c.loop-j.invariant.0 c.loop-j-test.false)
+returns c = joined_of (filled_all c.loop-j.invariant (omega arith) (omega arith))

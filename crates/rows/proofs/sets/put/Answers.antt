@@ -1,14 +1,10 @@
--- The words passed are those of the set (Filled).
-use Rattle.rows.proofs.RowLaws.{filled_none, filled_more, filled_all, put_of}
-use mathlib.Core.Path.{refl}
+-- The row's words are copied.
 use native.Mathlib.Omega.{arith}
+use Prim.Native.Nat.{◌*◌}
+use Rattle.rows.specs.Selection.{set_words}
+use Rattle.rows.proofs.RowLaws.{filled_part, put_of}
 use Rattle.rows.proofs.sets.put.Goals as goal
 
-pub loop-j-init : goal.loop-j-init
-loop-j-init c = (omega arith, filled_none)
-
-pub loop-j-preserved : goal.loop-j-preserved
-loop-j-preserved c = (omega arith, filled_more c.loop-j.invariant.1 refl (omega arith) refl)
-
 pub returns : goal.returns
-returns c = put_of (filled_all c.loop-j.invariant.1 c.loop-j.invariant.0 c.loop-j-test.false)
+returns c =
+    put_of (filled_part (c.args.r * set_words) set_words _ c.args.set.now (omega arith) c.copy_from_slice.ensures.after c.requires.set_len c.requires.set_words_in_bounds)

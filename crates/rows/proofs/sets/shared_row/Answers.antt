@@ -1,14 +1,9 @@
--- The words passed are those that the rows share (Filled).
-use Rattle.rows.proofs.RowLaws.{filled_none, filled_more, filled_all, shared_row_of}
-use mathlib.Core.Path.{refl}
-use native.Mathlib.Omega.{arith}
+-- Each word is what the rows share there.
+use Rattle.std.proofs.Common.{rules}
+use Rattle.rows.proofs.RowLaws.{made, shared_word, shared_row_of}
 use Rattle.rows.proofs.sets.shared_row.Goals as goal
 
-pub loop-j-init : goal.loop-j-init
-loop-j-init c = (omega arith, filled_none)
-
-pub loop-j-preserved : goal.loop-j-preserved
-loop-j-preserved c = (omega arith, filled_more c.loop-j.invariant.1 (omega arith) (omega arith) refl)
-
 pub returns : goal.returns
-returns c = shared_row_of refl (filled_all c.loop-j.invariant.1 c.loop-j.invariant.0 c.loop-j-test.false)
+returns c =
+    shared_row_of c.from_fn.ensures.items.long
+    (made (shared_word c.args.ps.now c.args.qs.now c.args.t) _ (λ i x q k. search rules) c.from_fn.ensures.items)
