@@ -4,6 +4,7 @@ use native.Mathlib.Numerals.{add-one}
 use native.Mathlib.Omega.{arith}
 use mathlib.Core.List.{List, [], ◌∷◌, ◌++◌, map, append-nil, append_assoc, map-append}
 use mathlib.Core.Path.{◌≡◌, refl, sym, ap, subst, ◌∙◌}
+use mathlib.Core.Logic.{◌⊎◌, inl, inr}
 use borrow.Author.Tests.{lt-ltb, le-ltb}
 use lib.ListN.{length, take, set, length-set}
 use lib.Seq.{take-suc-set}
@@ -107,8 +108,12 @@ pub grown_side : {k : Kind} {n : ℕ} {e : Side} {x y : Words} (m : ℕ) → sid
 grown_side {k} {n} m q p = grown_as (ap (equal n) (sym q)) refl p
 
 -- a fact of another kind leaves the list as it was
-pub kept : {k : Kind} {F : Facts} {x : Words} (j : Kind) → Room x → k ≡ j → Lacks j F → Grown k F 0 1 x x
+kept : {k : Kind} {F : Facts} {x : Words} (j : Kind) → Room x → k ≡ j → Lacks j F → Grown k F 0 1 x x
 kept {k} {F} {x} j h q a = record { adds = rw q (adds_lacking j F (listed x) a); fits = omega arith; size = h.size }
+
+pub kept_or : {k : Kind} {F : Facts} {x : Words} (i j : Kind) → Room x → (k ≡ i) ⊎ (k ≡ j) → Lacks i F → Lacks j F → Grown k F 0 1 x x
+kept_or i j h (inl q) a b = kept i h q a
+kept_or i j h (inr q) a b = kept j h q b
 
 module _ {k : Kind} {x r : Words} (h : Room x) where
   pub member_grown : (A n : ℕ) → k ≡ Members → n < part → r ≡ pushed x (A * part + n) → Grown k (member A n) 0 1 x r

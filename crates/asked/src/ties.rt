@@ -11,7 +11,7 @@ ghost use Rattle.asked.specs.Marked.{LeftsIn, Anchored, Small, tie_word};
 
 use crate::words::Words;
 use primary::rules::{MAX_NODES, PART};
-use records::layout::{narrow, wide, word};
+use records::layout::word;
 
 // The ties; and the node of each mark, at the place that the mark has in an equation.
 #[derive(Clone, Copy)]
@@ -27,12 +27,10 @@ fn anchors(equations: &[u16], start: u16) -> [u16; PART]
     ensures anchored { Anchored start equations.now result }
     ensures small { Small result }
 {
-    let n = equations.len();
     let mut nodes = [start; PART];
-    for i in 0..n {
-        let w = wide(equations[i]);
-        let side = w % PART;
-        nodes[side] = narrow(w / PART);
+    for &equation in equations {
+        let side = usize::from(equation) % PART;
+        nodes[side] = (usize::from(equation) / PART) as u16;
     }
     nodes
 }
@@ -42,21 +40,19 @@ fn tie(word: u16, nodes: &[u16; PART]) -> u16
     requires { Small nodes.now }
     ensures { result ≡ tie_word nodes.now word }
 {
-    let w = wide(word);
-    let side = w % PART;
+    let side = usize::from(word) % PART;
     if side < MAX_NODES {
         return word;
     }
-    narrow(w / PART * PART + wide(nodes[side]))
+    (usize::from(word) / PART * PART + usize::from(nodes[side])) as u16
 }
 
 fn tie_all(words: &mut [u16], nodes: &[u16; PART])
     requires { Small nodes.now }
     ensures { words.new ≡ map (tie_word nodes.now) words.old }
 {
-    let n = words.len();
-    for i in 0..n {
-        words[i] = tie(words[i], nodes);
+    for word in words.iter_mut() {
+        *word = tie(*word, nodes);
     }
 }
 
@@ -67,9 +63,9 @@ pub fn of_equations(schema: &[u16], query: &[u16], equations: Words) -> Tied
     requires asked { Asked schema.now query.now Equations equations }
     ensures { IsTied schema.now query.now result }
 {
-    let mut words = equations.words;
-    let count = equations.count;
-    let nodes = anchors(&words[..count], narrow(word(query, 1)));
+    let nodes = anchors(equations.as_slice(), word(query, 1) as u16);
+    // No method lends the words to be changed: the check follows no `&mut` into a part of a struct's array.
+    let Words { count, mut words } = equations;
     tie_all(&mut words[..count], &nodes);
     Tied {
         ties: Words { count, words },

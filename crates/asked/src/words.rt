@@ -1,15 +1,14 @@
 // A list of words with room for the facts of a query, and the three kinds of fact that it may hold. A fact of another kind
 // leaves it as it was.
-ghost use Rattle.std.specs.Prelude.{◌≡◌, ◌<◌, ◌^◌};
+ghost use Rattle.std.specs.Prelude.{◌≡◌, ◌≤◌, ◌<◌, ◌^◌};
 ghost use Rattle.records.specs.Concept.{forward, direction_of};
-ghost use Rattle.records.specs.Layout.{max_marks};
+ghost use Rattle.records.specs.Layout.{max_marks, max_tokens};
 ghost use Rattle.chase.specs.Bounds.{max_nodes};
 ghost use Rattle.chase.specs.Facts.{at_node, of_mark, member, equal, related};
 ghost use Rattle.primary.specs.Words.{part};
-ghost use Rattle.asked.specs.Listed.{side_of, Room, pushed, Grown};
+ghost use Rattle.asked.specs.Listed.{listed, side_of, Room, pushed, Grown};
 
 use primary::rules::{MAX_NODES, PART};
-use records::layout::narrow;
 use records::token::MAX_TOKENS;
 
 #[derive(Clone, Copy)]
@@ -27,15 +26,23 @@ pub struct Words {
 }
 
 impl Words {
+    #[tactic(auto, unfolding(crate::specs::Listed::pushed))]
     fn push(mut self, word: usize) -> Words
         requires room { Room self }
         requires word_bound { word < 2 ^ 16 }
         ensures { result ≡ pushed self word }
     {
-        let at = self.count;
-        self.words[at] = narrow(word);
-        self.count = at + 1;
+        self.words[self.count] = word as u16;
+        self.count += 1;
         self
+    }
+
+    // The words in use.
+    pub fn as_slice(&self) -> &[u16]
+        requires { self.now.count ≤ max_tokens }
+        ensures { result.now ≡ listed self.now }
+    {
+        &self.words[..self.count]
     }
 }
 
@@ -47,8 +54,7 @@ pub fn add_member(kind: Kind, class: usize, node: usize, list: Words) -> Words
 {
     match kind {
         Kind::Members => list.push(class * PART + node),
-        Kind::Equations => list,
-        Kind::Edges => list,
+        Kind::Equations | Kind::Edges => list,
     }
 }
 
@@ -59,9 +65,8 @@ fn add_side(kind: Kind, left: usize, right: usize, list: Words) -> Words
     ensures { Grown kind (equal left (side_of right)) 0 1 list result }
 {
     match kind {
-        Kind::Members => list,
         Kind::Equations => list.push(left * PART + right),
-        Kind::Edges => list,
+        Kind::Members | Kind::Edges => list,
     }
 }
 
@@ -90,9 +95,8 @@ fn add_pair(kind: Kind, attribute: usize, origin: usize, target: usize, list: Wo
     ensures { Grown kind (related forward attribute origin target) 0 1 list result }
 {
     match kind {
-        Kind::Members => list,
-        Kind::Equations => list,
         Kind::Edges => list.push((attribute * PART + origin) * PART + target),
+        Kind::Members | Kind::Equations => list,
     }
 }
 

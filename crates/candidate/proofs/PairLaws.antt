@@ -1,13 +1,12 @@
 -- The pairs of an attribute at an object: the query's, found by a search over its edges, and one value more.
-use Prim.Native.Nat.{ℕ, zero, suc, ◌+◌, ◌-◌, ◌≤◌, ◌<◌}
+use Prim.Native.Nat.{ℕ, zero, suc, ◌+◌, ◌≤◌, ◌<◌}
 use native.Mathlib.Numerals.{add-one}
 use native.Mathlib.Omega.{arith}
 use mathlib.Core.Bool.{Bool, false, cond, ◌&&◌, ◌||◌}
 use mathlib.Core.List.{List, [], ◌∷◌, ◌++◌, map, map-append, append-nil}
 use mathlib.Core.Path.{◌≡◌, refl, sym, ap, ap₂, subst, ◌∙◌}
 use lib.Dec.{eqb, ltb}
-use lib.ListN.{length, get_or, set, take}
-use lib.Seq.{take_all}
+use lib.ListN.{length, set}
 use borrow.Author.Tests.{lt-ltb, le-ltb}
 use Rattle.records.specs.Layout.{attribute_kinds}
 use Rattle.records.specs.Schema.{Schema}
@@ -19,7 +18,9 @@ use Rattle.chase.specs.Forest.{Forest, size, kid, push, asks, lacks}
 use Rattle.chase.specs.Candidate.{links}
 use Rattle.chase.specs.Targets.{targets}
 use Rattle.chase.specs.Written.{gather, pair_facts}
-use Rattle.records.proofs.General.LoopLaws.{any_next, any_map}
+use Rattle.records.proofs.General.LoopLaws.{any_map}
+use Rattle.std.specs.List.{list_any}
+use Rattle.forest.proofs.ReadLaws.{any_listed}
 use Rattle.records.proofs.General.BoolLaws.{cond_elim, cond_elim₂, or_false}
 use Rattle.chase.proofs.ForestLaws.{kid_lacks, kid_bound}
 use Rattle.primary.specs.Words.{edge_of}
@@ -33,26 +34,14 @@ pub link_any : (g : ℕ) (words edges : List ℕ) (P d : ℕ) → link_facts (gr
 unfolding links
 link_any g words edges P d = refl
 
--- one edge among those passed is the pair (d, e) of P
+-- one edge is the pair (d, e) of P
 module _ (l : List ℕ) (P d e : ℕ) where
-  abbrev is_link : ℕ → Bool
+  abbrev pub is_link : ℕ → Bool
   is_link w = eqb (edge_of w).attribute P && eqb (edge_of w).origin d && eqb (edge_of w).target e
 
-  abbrev pub linked_by : ℕ → Bool
-  linked_by i = any_of is_link (take i l)
-
-  pub linked_none : false ≡ linked_by 0
-  unfolding any_of
-  linked_none = refl
-
-  pub linked_more : (i : ℕ) (b : Bool) → i < length l → b ≡ linked_by i → (b || is_link (get_or l i 0)) ≡ linked_by (i + 1)
-  linked_more i b h q = rw add-one (ap (λ (c : Bool). c || is_link (get_or l i 0)) q ∙ sym (any_next is_link l i 0 h))
-
-  pub linked_all : (i : ℕ) (b : Bool) → length l ≤ i → b ≡ linked_by i → (g : ℕ) (objects : List ℕ) → b ≡ links (ground_in g objects l) P d e
+  pub links_words : (g : ℕ) (objects : List ℕ) → list_any is_link l ≡ links (ground_in g objects l) P d e
   unfolding links
-  linked_all i b h q g objects =
-      q ∙ ap (any_of is_link) (take_all i l h)
-      ∙ sym (any_map (λ f. eqb f.attribute P && eqb f.origin d && eqb f.target e) edge_of l)
+  links_words g objects = any_listed is_link l ∙ sym (any_map (λ f. eqb f.attribute P && eqb f.origin d && eqb f.target e) edge_of l)
 
 -- where the query asks nothing, it has no pair
 asked_by : (P d e : ℕ) (l : List Edge) → any_of (λ f. eqb f.attribute P && eqb f.origin d) l ≡ false
@@ -135,27 +124,26 @@ module _ (S : Schema) (G : Ground) (T : Forest) (P d : ℕ) where
       ap (λ (t : Bool). cond t (suc (size G T)) zero) e
       ∙ sym (ap (λ (t : Bool). cond t (kid G T P d) (cond (lacks S G T P d) (suc (size G T)) zero)) (le-ltb 0 (kid G T P d) (omega arith)))
 
-pub value_bound : (S : Schema) (G : Ground) (T : Forest) (P d : ℕ) → value_at S G T P d ≤ suc (size G T)
+value_bound : (S : Schema) (G : Ground) (T : Forest) (P d : ℕ) → value_at S G T P d ≤ suc (size G T)
 unfolding value_at
 value_bound S G T P d =
     cond_elim (λ v. v ≤ suc (size G T)) (ltb 0 (kid G T P d)) (λ _. omega (arith, kid_bound G T P d))
     (λ _. cond_elim (λ v. v ≤ suc (size G T)) (lacks S G T P d) (λ _. omega arith) (λ _. omega arith))
 
--- the pair to it, by whether there is one
-module _ (k P d : ℕ) (out : List ℕ) where
-  pub value_off : (v : ℕ) → v ≡ 0 → Wrote k (value_facts P d v) out k out
-  value_off zero e = wrote_none k out
-  value_off (suc v) e = absurd (omega arith)
+pub value_small : (S : Schema) (G : Ground) (T : Forest) (P d : ℕ) {v n : ℕ} → v ≡ value_at S G T P d → size G T ≡ n → v ≤ n + 1
+value_small S G T P d e q = omega (arith, e, q, value_bound S G T P d)
 
-  pub value_room : (v : ℕ) → (v ≡ 0 → ⊥) → Room k (value_facts P d v) out → k < length out
+-- the pair to it
+module _ (k P d : ℕ) (out : List ℕ) (e : ℕ) where
+  one : value_facts P d (e + 1) ≡ fact (attribute_kinds + P) d e ∷ []
+  one = rw add-one
+
+  pub value_room : Room k (value_facts P d (e + 1)) out → k < length out
   unfolding Room
-  value_room zero n room = absurd (n refl)
-  value_room (suc v) n room = omega (arith, room)
+  value_room room = let q = rw one at room in omega (arith, q)
 
-  pub value_on : (v f : ℕ) → (v ≡ 0 → ⊥) → f ≡ fact (attribute_kinds + P) d (v - 1) → Room k (value_facts P d v) out
-      → Wrote k (value_facts P d v) out (k + 1) (set out k f)
-  value_on zero f n e room = absurd (n refl)
-  value_on (suc v) f n e room =
-      let q : f ≡ fact (attribute_kinds + P) d v = omega arith in
-      subst (λ (x : ℕ). Wrote k (x ∷ []) out (k + 1) (set out k f)) q
-      (wrote_one k f out (subst (λ (x : ℕ). Room k (x ∷ []) out) (sym q) room))
+  pub value_on : (f : ℕ) → f ≡ fact (attribute_kinds + P) d e → Room k (value_facts P d (e + 1)) out
+      → Wrote k (value_facts P d (e + 1)) out (k + 1) (set out k f)
+  value_on f q room =
+      let is : f ∷ [] ≡ value_facts P d (e + 1) = ap (λ (x : ℕ). x ∷ []) q ∙ sym one in
+      subst (λ (l : List ℕ). Wrote k l out (k + 1) (set out k f)) is (wrote_one k f out (subst (λ (l : List ℕ). Room k l out) (sym is) room))

@@ -6,7 +6,7 @@ use native.Mathlib.Numerals.{add-one}
 use native.Mathlib.Omega.{arith}
 use Rattle.records.specs.Finite.{any}
 use Rattle.records.specs.Schema.{Schema}
-use Rattle.records.proofs.General.FiniteLaws.{any_of_lem, any_found, any_none, none_any}
+use Rattle.records.proofs.General.FiniteLaws.{any_of_lem, any_found, any_none, none_any, any_same}
 use Rattle.chase.specs.Ground.{Ground}
 use Rattle.chase.specs.Forest.{Forest, size, lacks}
 use Rattle.chase.specs.Candidate.{lacking, objects}
@@ -38,19 +38,11 @@ lacking_by S G T = any_swap (λ d P. lacks S G T P d) (size G T) S.signature.att
 
 -- the search over the objects for a lack of P, and over the attributes
 module _ (S : Schema) (G : Ground) (T : Forest) where
-  pub lacks_found : (P d n : ℕ) → size G T ≡ n → d < n → So (lacks S G T P d) → true ≡ lacks_one S G T P
-  lacks_found P d n q h l = sym (any_of_lem (lacks S G T P) (size G T) d (omega arith) l)
+  pub lacks_any : (P n : ℕ) (test : ℕ → Bool) → size G T ≡ n → ((d : ℕ) → d < n → test d ≡ lacks S G T P d) → any n test ≡ lacks_one S G T P
+  lacks_any P n test q h = any_same test (lacks S G T P) n (λ d l _. h d l) ∙ ap (λ (m : ℕ). any m (lacks S G T P)) (sym q)
 
-  pub lacks_none : (P d n : ℕ) → size G T ≡ n → d ≤ n → n ≤ d → any d (lacks S G T P) ≡ false → false ≡ lacks_one S G T P
-  lacks_none P d n q h k l = let e : d ≡ size G T = omega arith in sym l ∙ ap (λ (m : ℕ). any m (lacks S G T P)) e
-
-  pub lacking_found : (P : ℕ) → P < S.signature.attributes → So (lacks_one S G T P) → true ≡ lacking S G T
-  lacking_found P h l = sym (lacking_by S G T ∙ any_of_lem (lacks_one S G T) S.signature.attributes P h l)
-
-  pub lacking_none : (P n : ℕ) → n ≡ S.signature.attributes → P ≤ n → n ≤ P → any P (lacks_one S G T) ≡ false → false ≡ lacking S G T
-  lacking_none P n q h k l =
-      let e : P ≡ S.signature.attributes = omega arith in
-      sym l ∙ ap (λ (m : ℕ). any m (lacks_one S G T)) e ∙ sym (lacking_by S G T)
+  pub lacking_any : (n : ℕ) → n ≡ S.signature.attributes → any n (lacks_one S G T) ≡ lacking S G T
+  lacking_any n q = ap (λ (m : ℕ). any m (lacks_one S G T)) q ∙ sym (lacking_by S G T)
 
   -- the closing object is one more
   pub objects_on : (n : ℕ) (b : Bool) → size G T ≡ n → b ≡ lacking S G T → So b → n + 1 ≡ objects S G T

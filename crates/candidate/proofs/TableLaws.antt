@@ -1,7 +1,7 @@
 -- The tables of an attribute: each is right of what has been passed, and one object or edge more is one store. What an object
 -- lacks is told by what is looked up of it.
 use Prim.Native.Nat.{ℕ, zero, suc, ◌+◌, ◌≤◌, ◌<◌}
-use native.Mathlib.Decide.{ℕ_discrete}
+use native.Mathlib.Decide.{ℕ_discrete, dec_lt}
 use native.Mathlib.Numerals.{add-one}
 use native.Mathlib.Omega.{arith}
 use mathlib.Core.Bool.{Bool, true, false, So, cond, not, ◌&&◌, ◌||◌, and-true, and-false, or-false}
@@ -10,20 +10,21 @@ use mathlib.Core.Path.{◌≡◌, refl, sym, ap, ap₂, subst, ◌∙◌}
 use lib.Dec.{eqb, ltb}
 use lib.ListN.{length, get_or, set, take, replicate, length-set, length-replicate, get_or-replicate}
 use lib.Seq.{take_all, get_or-set_same, get_or-set_other}
-use borrow.Author.Tests.{eqb-true, eq-eqb, ne_eqb}
+use Rattle.std.proofs.lemmas.List.{get_or_past}
+use borrow.Author.Tests.{lt-ltb, eqb-true, eq-eqb, ne_eqb}
 use Rattle.records.specs.Layout.{max_objects}
 use Rattle.records.specs.Schema.{Schema}
 use Rattle.records.proofs.General.BoolLaws.{and_both, and_parts}
-use Rattle.records.proofs.General.ListLaws.{set_elim}
 use Rattle.records.specs.Helpers.Loops.{any_of}
-use Rattle.chase.specs.Axioms.{needs}
+use Rattle.chase.specs.Axioms.{collect, needs_by, needs}
 use Rattle.chase.specs.ClassSet.{meets}
 use Rattle.chase.specs.Ground.{Ground}
 use Rattle.chase.specs.Forest.{Forest, kid, parent, asks, classes_of, lacks}
 use Rattle.records.proofs.General.LoopLaws.{any_next, any_map}
 use Rattle.primary.specs.Words.{part, edge_of}
 use Rattle.ground.specs.Objects.{attribute_in, maker_in, ground_in, forest_in, Laid}
-use Rattle.forest.specs.Kept.{Kept}
+use Rattle.std.specs.Prelude.{Option, Some, None, is_some}
+use Rattle.forest.specs.Kept.{Kept, number}
 use Rattle.forest.proofs.ObjectLaws.{forest_none, forest_more, size_laid, parent_made}
 use Rattle.candidate.specs.Tables.{Kids, Origins, LookedUp}
 
@@ -54,13 +55,13 @@ module _ (P w : ℕ) where
 
 -- the values made, among the objects below e
 module _ (g : ℕ) (objects : List ℕ) (P : ℕ) where
-  pub kids_none : (n m : ℕ) → m ≡ max_objects + 1 → Kept g n objects → Kids g g objects P (replicate m 0)
+  pub kids_none : (n m : ℕ) → m ≡ max_objects → Kept g n objects → Kids g g objects P (replicate m None)
   unfolding kid
   kids_none n m q kept =
       record {
-        size = length-replicate {A = ℕ} m 0 ∙ q;
+        size = length-replicate {A = Option ℕ} m None ∙ q;
         values = λ edges d h.
-            get_or-replicate {A = ℕ} m (d + 1) 0 0 (omega arith)
+            ap number (get_or-replicate {A = Option ℕ} m d None None (omega arith))
             ∙ sym
             (ap (λ (T : Forest). kid (ground_in g objects edges) T P d)
             (forest_none g g objects (omega (arith, kept.laid.ground, kept.laid.fits, kept.laid.room))));
@@ -74,41 +75,52 @@ module _ (g : ℕ) (objects : List ℕ) (P : ℕ) where
     told : place ≡ maker P w
     told = is [] ∙ parent_made g n objects kept.laid objects [] P e h k
 
-    pub place_bound : place < max_objects + 1
+    pub place_bound : place ≤ max_objects
     place_bound = go (eqb (attribute_in w) P) told
       where
-        go : (b : Bool) → place ≡ cond b (suc (maker_in w)) zero → place < max_objects + 1
+        go : (b : Bool) → place ≡ cond b (suc (maker_in w)) zero → place ≤ max_objects
         go true q = omega (arith, kept.makers e h k, kept.laid.fits)
         go false q = omega arith
 
     -- the object e is its maker's
-    kid_next : (edges : List ℕ) (d : ℕ)
-        → kid (ground_in g objects edges) (forest_in g (e + 1) objects) P d
-        ≡ cond (makes P w d) (e + 1) (kid (ground_in g objects edges) (forest_in g e objects) P d)
+    kid_next : (edges : List ℕ) (d : ℕ) (b : Bool) → makes P w d ≡ b
+        → cond b (e + 1) (kid (ground_in g objects edges) (forest_in g e objects) P d)
+        ≡ kid (ground_in g objects edges) (forest_in g (e + 1) objects) P d
     unfolding kid
-    kid_next edges d =
+    kid_next edges d b q =
         let G = ground_in g objects edges in
         let laid : Laid g e objects = record { room = kept.laid.room; ground = h; fits = omega (arith, kept.laid.fits) } in
-        rw add-one
+        sym
+        (rw add-one
         (ap (λ (T : Forest). kid G T P d) (forest_more g e objects h (omega (arith, kept.laid.fits, kept.laid.room)))
-        ∙ ap (λ (s : ℕ). cond (makes P w d) (suc s) (kid G (forest_in g e objects) P d)) (size_laid g e objects laid objects edges))
+        ∙ ap (λ (s : ℕ). cond (makes P w d) (suc s) (kid G (forest_in g e objects) P d)) (size_laid g e objects laid objects edges)
+        ∙ ap (λ (t : Bool). cond t (suc e) (kid G (forest_in g e objects) P d)) q))
 
-    pub kids_more : (table : List ℕ) → Kids g e objects P table → Kids g (e + 1) objects P (set table place (e + 1))
-    kids_more table z =
+    pub kids_made : (m : ℕ) (table : List (Option ℕ)) → place ≡ m + 1 → Kids g e objects P table
+        → Kids g (e + 1) objects P (set table m (Some e))
+    kids_made m table q z =
         record {
-          size = length-set table place (e + 1) ∙ z.size;
+          size = length-set table m (Some e) ∙ z.size;
           values = λ edges d l.
-              let here : (b : Bool) → makes P w d ≡ b
-              → cond b (e + 1) (kid (ground_in g objects edges) (forest_in g e objects) P d)
-              ≡ kid (ground_in g objects edges) (forest_in g (e + 1) objects) P d
-              = λ b q.
-              sym (kid_next edges d ∙ ap (λ (t : Bool). cond t (e + 1) (kid (ground_in g objects edges) (forest_in g e objects) P d)) q) in
-              set_elim (λ v. v ≡ kid (ground_in g objects edges) (forest_in g (e + 1) objects) P d) table place (e + 1) (d + 1)
-              (omega (arith, place_bound, z.size)) (λ q. here true (made_here P w d (q ∙ told)))
-              (λ q. z.values edges d l ∙ here false (made_elsewhere P w d (λ r. q (r ∙ sym told))));
+              elim (ℕ_discrete d m) [
+                | yes i ↦
+                    ap (λ (j : ℕ). number (get_or (set table m (Some e)) j None)) i
+                    ∙ ap number (get_or-set_same table m (Some e) None (omega (arith, place_bound, z.size)))
+                    ∙ kid_next edges d true (made_here P w d (ap (λ (j : ℕ). j + 1) i ∙ sym q ∙ told))
+                | no n ↦
+                    ap number (get_or-set_other table m d (Some e) None n) ∙ z.values edges d l
+                    ∙ kid_next edges d false (made_elsewhere P w d (λ r. n (omega (arith, r, q, told))))
+              ];
         }
 
-  pub kids_all : (e n : ℕ) (table : List ℕ) → e ≡ n → Kids g e objects P table → Kids g n objects P table
+    pub kids_passed : (table : List (Option ℕ)) → place ≡ 0 → Kids g e objects P table → Kids g (e + 1) objects P table
+    kids_passed table q z =
+        record {
+          size = z.size;
+          values = λ edges d l. z.values edges d l ∙ kid_next edges d false (made_elsewhere P w d (λ r. absurd (omega (arith, r, q, told))));
+        }
+
+  pub kids_all : (e n : ℕ) (table : List (Option ℕ)) → e ≡ n → Kids g e objects P table → Kids g n objects P table
   kids_all e n table q z = subst (λ (m : ℕ). Kids g m objects P table) q z
 
 -- the query has a pair of P from d, among the edges l
@@ -135,7 +147,7 @@ module _ (P d : ℕ) where
       (ap (λ (b : Bool). eqb (edge_of w).attribute P && b) (ne_eqb (edge_of w).origin d (λ q. omega arith)) ∙ and-false (eqb (edge_of w).attribute P))
       (none_from h l)
 
-  pub asked_beyond : (g : ℕ) (objects l : List ℕ) → part ≤ d → false ≡ asks (ground_in g objects l) P d
+  asked_beyond : (g : ℕ) (objects l : List ℕ) → part ≤ d → false ≡ asks (ground_in g objects l) P d
   asked_beyond g objects l h = sym (asks_words g objects l ∙ none_from h l)
 
 module _ (l : List ℕ) (P : ℕ) where
@@ -180,9 +192,29 @@ module _ (l : List ℕ) (P : ℕ) where
   pub origins_all : (i : ℕ) (table : List Bool) → length l ≤ i → Origins (take i l) P table → Origins l P table
   origins_all i table h z = subst (λ (m : List ℕ). Origins m P table) (take_all i l h) z
 
+-- beyond the table no object is an origin
+pub origin_is : {edges : List ℕ} {P : ℕ} {table : List Bool} → Origins edges P table → (g : ℕ) (objects : List ℕ) (d : ℕ)
+    → get_or table d false ≡ asks (ground_in g objects edges) P d
+origin_is {edges} {P} {table} z g objects d = elim (dec_lt d part) [
+  | yes l ↦ z.asked g objects d l
+  | no n ↦ get_or_past table d false (omega (arith, z.size)) ∙ asked_beyond P d g objects edges (omega arith)
+]
+
 -- what an object lacks, by its classes and what is looked up
-pub lacks_is : (S : Schema) (G : Ground) (T : Forest) (P d c m k : ℕ) (a b : Bool) → b ≡ (meets c m && not (a || ltb 0 k))
-    → c ≡ classes_of S G T d → LookedUp S G T P d m a k → b ≡ lacks S G T P d
+some_number : (o : Option ℕ) → is_some o ≡ ltb 0 (number o)
+some_number None = refl
+some_number (Some e) = sym (lt-ltb 0 (e + 1) (omega arith))
+
+pub lacks_is : (S : Schema) (G : Ground) (T : Forest) (P d c m : ℕ) (o : Option ℕ) (a b : Bool)
+    → b ≡ (meets c m && not (a || is_some o))
+    → c ≡ classes_of S G T d → LookedUp S G T P d m a o → b ≡ lacks S G T P d
 unfolding lacks needs
-lacks_is S G T P d c m k a b e p u =
-    e ∙ ap₂ (λ (x y : Bool). x && not y) (ap₂ meets p u.needed) (ap₂ (λ (x : Bool) (i : ℕ). x || ltb 0 i) u.query u.value)
+lacks_is S G T P d c m o a b e p u =
+    e
+    ∙ ap₂ (λ (x y : Bool). x && not y) (ap₂ meets p u.needed) (ap₂ ◌||◌ u.query (some_number o ∙ ap (ltb 0) u.value))
+
+-- .. and what is looked up, in the tables of the attribute
+pub looked_up : {g n : ℕ} {objects edges : List ℕ} {P mask : ℕ} {from : List Bool} {made : List (Option ℕ)} (S : Schema) (d : ℕ)
+    → mask ≡ collect S (needs_by P) → Origins edges P from → Kids g n objects P made → d < max_objects
+    → LookedUp S (ground_in g objects edges) (forest_in g n objects) P d mask (get_or from d false) (get_or made d None)
+looked_up {g} {n} {objects} {edges} S d m o z h = record { needed = m; query = origin_is o g objects d; value = z.values edges d h }

@@ -10,7 +10,6 @@ use crate::number::Sizes;
 use crate::put::{fact, put_if};
 use ground::number::object_of;
 use primary::rules::{MAX_NODES, PART};
-use records::layout::wide;
 use records::marks::{MAX_MARKS, allows};
 use records::schema::Signature;
 use records::state::MARK_KINDS;
@@ -43,7 +42,7 @@ pub fn mark_facts(
 {
     let mut at = count;
     for k in 0..MAX_MARKS {
-        let d = object_of(reps, wide(nodes[MAX_NODES + k]));
+        let d = object_of(reps, usize::from(nodes[MAX_NODES + k]));
         at = put_if(allows(s, k), fact(MARK_KINDS + k, d, 0), out, at);
     }
     at

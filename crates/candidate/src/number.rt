@@ -1,6 +1,6 @@
 // How many objects the candidate has: the closing object is one of them where some object lacks a value. How many facts it has
 // at most.
-ghost use Rattle.std.specs.Prelude.{◌≤◌, ◌&&◌, ◌||◌, not, ◌≡◌, ltb};
+ghost use Rattle.std.specs.Prelude.{◌≤◌, ◌&&◌, ◌||◌, not, ◌≡◌};
 ghost use Rattle.records.specs.Layout.{max_classes, max_attributes, max_constants, max_objects, max_facts, query_steps};
 ghost use Rattle.records.specs.Schema.{Schema};
 ghost use Rattle.records.specs.SchemaRecord.{schema_of};
@@ -17,7 +17,6 @@ use crate::tables::{is_origin, kids, origins};
 use classes::collect::needs_mask;
 use classes::sets::meets;
 use forest::objects::{OBJECTS, classes_at};
-use records::layout::wide;
 use records::marks::MAX_MARKS;
 use records::schema::{Signature, signature_of};
 
@@ -32,10 +31,10 @@ pub struct Sizes {
 
 // An object of these classes needs a value, and neither the query nor the made part has one. The mask has the classes that
 // need it.
-pub fn unmet(classes: u32, mask: u32, asked: bool, made: usize) -> bool
-    ensures { result ≡ (meets_in classes mask && not (asked || ltb 0 made)) }
+pub fn unmet(classes: u32, mask: u32, asked: bool, made: bool) -> bool
+    ensures { result ≡ (meets_in classes mask && not (asked || made)) }
 {
-    meets(classes, mask) & !(asked | (made > 0))
+    meets(classes, mask) & !(asked | made)
 }
 
 // Some object lacks a value of the attribute. The mask has the classes that need one.
@@ -52,13 +51,12 @@ fn lacks_one(
 {
     let from = origins(edges, attribute);
     let made = kids(objects, g, n, attribute);
-    for d in 0..n {
-        let classes = classes_at(objects, d);
-        if unmet(classes, mask, is_origin(&from, d), wide(made[d + 1])) {
-            return true;
-        }
-    }
-    false
+    (0..n).any(|d| unmet(
+        classes_at(objects, d),
+        mask,
+        is_origin(&from, d),
+        made[d].is_some(),
+    ))
 }
 
 fn lacking(schema: &[u16], edges: &[u16], objects: &[u64; OBJECTS], g: usize, n: usize) -> bool
@@ -66,13 +64,10 @@ fn lacking(schema: &[u16], edges: &[u16], objects: &[u64; OBJECTS], g: usize, n:
     ensures { result ≡ lacking_in (schema_of schema.now) (ground_in g objects.now edges.now) (forest_in g n objects.now) }
 {
     let s = signature_of(schema);
-    for attribute in 0..s.attributes {
+    (0..s.attributes).any(|attribute| {
         let mask = needs_mask(schema, attribute);
-        if lacks_one(edges, objects, g, n, mask, attribute) {
-            return true;
-        }
-    }
-    false
+        lacks_one(edges, objects, g, n, mask, attribute)
+    })
 }
 
 pub fn count_objects(

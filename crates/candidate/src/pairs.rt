@@ -7,7 +7,7 @@ ghost use Rattle.chase.specs.Candidate.{links};
 ghost use Rattle.chase.specs.Forest.{asks};
 ghost use Rattle.chase.specs.Written.{gather};
 ghost use Rattle.ground.specs.Objects.{forest_in, ground_in};
-ghost use Rattle.forest.specs.Kept.{Kept};
+ghost use Rattle.forest.specs.Kept.{Kept, number};
 ghost use Rattle.candidate.specs.Writing.{Room, Wrote};
 ghost use Rattle.candidate.specs.Facts.{value_facts, link_facts, value_at, pairs_in};
 ghost use Rattle.candidate.specs.Ready.{Sized};
@@ -19,20 +19,16 @@ use crate::tables::{is_origin, kids, origins};
 use classes::collect::needs_mask;
 use forest::objects::{OBJECTS, classes_of};
 use primary::rules::PART;
-use records::layout::wide;
 use records::state::ATTRIBUTE_KINDS;
 
 // The query has the pair (d, e) of the attribute.
 fn linked(edges: &[u16], attribute: usize, d: usize, e: usize) -> bool
     ensures { (g : ℕ) (objects : List ℕ) → result ≡ links (ground_in g objects edges.now) attribute d e }
 {
-    let n = edges.len();
-    let mut found = false;
-    for i in 0..n {
-        let w = wide(edges[i]);
-        found = found | ((w / PART / PART == attribute) & (w / PART % PART == d) & (w % PART == e));
-    }
-    found
+    edges.iter().any(|&edge| {
+        let w = usize::from(edge);
+        w / PART / PART == attribute && w / PART % PART == d && w % PART == e
+    })
 }
 
 // The query's pairs of the attribute from an object. They lead to the first `g` objects.
@@ -76,41 +72,49 @@ fn asked_facts(
     link_facts(edges, g, attribute, d, out, count)
 }
 
-// The value that is not the query's: the made one, or the closing object where one is lacking; 0 for none, e + 1 for object
-// e. Of the attribute there is what was looked up.
+// The value that is not the query's: the made one, or the closing object where one is lacking. Of the attribute there is what
+// was looked up.
 fn value_of(
     schema: &[u16],
     objects: &[u64; OBJECTS],
     sizes: Sizes,
     mask: u32,
     asked: bool,
-    made: usize,
+    made: Option<u16>,
     d: usize,
-) -> usize
+) -> Option<usize>
     requires { AcceptedSchema schema.now × Kept sizes.ground sizes.made objects.now × (d ≤ sizes.made) }
-    ensures { (edges : List ℕ) (P : ℕ) → LookedUp (schema_of schema.now) (ground_in sizes.ground objects.now edges) (forest_in sizes.ground sizes.made objects.now) P d mask asked made → result ≡ value_at (schema_of schema.now) (ground_in sizes.ground objects.now edges) (forest_in sizes.ground sizes.made objects.now) P d }
+    ensures { (edges : List ℕ) (P : ℕ) → LookedUp (schema_of schema.now) (ground_in sizes.ground objects.now edges) (forest_in sizes.ground sizes.made objects.now) P d mask asked made → number result ≡ value_at (schema_of schema.now) (ground_in sizes.ground objects.now edges) (forest_in sizes.ground sizes.made objects.now) P d }
 {
-    if made > 0 {
-        return made;
+    if let Some(e) = made {
+        return Some(usize::from(e));
     }
     let classes = classes_of(schema, objects, sizes.ground, sizes.made, d);
-    if !unmet(classes, mask, asked, made) {
-        return 0;
+    if !unmet(classes, mask, asked, false) {
+        return None;
     }
-    sizes.made + 1
+    Some(sizes.made)
 }
 
-// The pair to the object that a number stands for, if any.
-fn value_facts(value: usize, attribute: usize, d: usize, out: &mut [u32], count: usize) -> usize
-    requires value_le_object_part { (value ≤ object_part) × (attribute < max_attributes) × (d < object_part) }
-    requires room { Room count (value_facts attribute d value) out.old }
-    ensures { Wrote count (value_facts attribute d value) out.old result out.new }
+// The pair to the value, if there is one.
+fn value_facts(
+    value: Option<usize>,
+    attribute: usize,
+    d: usize,
+    out: &mut [u32],
+    count: usize,
+) -> usize
+    requires value_le_object_part { (number value ≤ object_part) × (attribute < max_attributes) × (d < object_part) }
+    requires room { Room count (value_facts attribute d (number value)) out.old }
+    ensures { Wrote count (value_facts attribute d (number value)) out.old result out.new }
 {
-    if value == 0 {
-        return count;
+    match value {
+        Some(e) => {
+            out[count] = fact(ATTRIBUTE_KINDS + attribute, d, e);
+            count + 1
+        }
+        None => count,
     }
-    out[count] = fact(ATTRIBUTE_KINDS + attribute, d, value - 1);
-    count + 1
 }
 
 // All pairs of an attribute: of each object the query's, then the one value more.
@@ -135,7 +139,7 @@ fn pair_row(
     for d in 0..total {
         let asked = is_origin(&from, d);
         let linked = asked_facts(asked, edges, sizes.ground, attribute, d, out, at);
-        let value = value_of(schema, objects, sizes, mask, asked, wide(made[d + 1]), d);
+        let value = value_of(schema, objects, sizes, mask, asked, made[d], d);
         at = value_facts(value, attribute, d, out, linked);
     }
     at

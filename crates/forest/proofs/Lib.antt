@@ -1,6 +1,6 @@
 -- Laws that callers' proofs cite, and those that several proofs here share.
 pub mod ObjectLaws
-mod ReadLaws
+pub mod ReadLaws
 mod GrowLaws
 mod PlaceLaws
 mod ViewLaws

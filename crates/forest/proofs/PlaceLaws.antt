@@ -1,5 +1,5 @@
 -- The list of made objects: an object more at its end, and the list after a step, object by object.
-use Prim.Native.Nat.{ℕ, zero, suc, ◌+◌, ◌-◌, ◌≤◌, ◌<◌}
+use Prim.Native.Nat.{ℕ, zero, suc, ◌+◌, ◌≤◌, ◌<◌}
 use native.Mathlib.Omega.{arith}
 use native.Mathlib.Decide.{dec_lt, ℕ_discrete}
 use native.Mathlib.Numerals.{add-one}
@@ -8,7 +8,7 @@ use mathlib.Core.List.{List, [], ◌∷◌, ◌++◌, append-nil}
 use mathlib.Core.Path.{◌≡◌, refl, sym, ap, ap₂, subst, ◌∙◌}
 use lib.Dec.{eqb}
 use lib.ListN.{length, get_or, set, take, length-set}
-use lib.Seq.{take-suc, take-suc-set, get_or-set_same, get_or-set_other}
+use lib.Seq.{take-suc, take-suc-set, length-take-le, get_or-take, get_or-set_same, get_or-set_other}
 use Rattle.records.specs.Concept.{Direction, direction_of}
 use Rattle.chase.specs.Ground.{Ground}
 use Rattle.chase.specs.Forest.{Forest, kid, parent, push, hop, next}
@@ -33,28 +33,28 @@ module _ (h : Here) (k : ℕ) (stands : Stands h) where
         more = omega arith;
       }
 
-  pub pushed_one : h.count < max_places → k ≤ h.size → (k ≡ 0 → ⊥)
-      → (r : Here) → r.size ≡ h.size → r.count ≡ h.count + 1 → r.at ≡ set h.at h.count (k - 1)
+  pub pushed_one : (e : ℕ) → k ≡ e + 1 → h.count < max_places → k ≤ h.size
+      → (r : Here) → r.size ≡ h.size → r.count ≡ h.count + 1 → r.at ≡ set h.at h.count e
       → Pushed h k r
-  pushed_one few inside some r s c a =
+  pushed_one e is few inside r s c a =
       let long : h.count < length h.at = omega (arith, stands.room) in
-      let q : suc (k - 1) ≡ k = omega arith in
+      let q : suc e ≡ k = omega arith in
       record {
         list =
-            ap₂ take c a ∙ ap (λ (i : ℕ). take i (set h.at h.count (k - 1))) (add-one h.count)
-            ∙ take-suc-set h.at h.count (k - 1) long ∙ ap (λ (i : ℕ). standing h ++ push i []) q;
+            ap₂ take c a ∙ ap (λ (i : ℕ). take i (set h.at h.count e)) (add-one h.count)
+            ∙ take-suc-set h.at h.count e long ∙ ap (λ (i : ℕ). standing h ++ push i []) q;
         stands =
             record {
-              room = ap length a ∙ length-set h.at h.count (k - 1) ∙ stands.room;
+              room = ap length a ∙ length-set h.at h.count e ∙ stands.room;
               few = omega arith;
               inside = λ i l.
                   subst (λ (m : List ℕ). get_or m i 0 < r.size) (sym a)
                   (elim (ℕ_discrete i h.count) [
-                    | yes e ↦
-                        subst (λ (j : ℕ). get_or (set h.at h.count (k - 1)) j 0 < r.size) (sym e)
-                        (omega (arith, get_or-set_same h.at h.count (k - 1) 0 long))
-                    | no e ↦
-                        omega (arith, get_or-set_other h.at h.count i (k - 1) 0 e, stands.inside i (omega arith))
+                    | yes j ↦
+                        subst (λ (j : ℕ). get_or (set h.at h.count e) j 0 < r.size) (sym j)
+                        (omega (arith, get_or-set_same h.at h.count e 0 long))
+                    | no n ↦
+                        omega (arith, get_or-set_other h.at h.count i e 0 n, stands.inside i (omega arith))
                   ]);
             };
         size = s;
@@ -110,6 +110,17 @@ module _ (G : Ground) (T : Forest) (r : Direction) (P : ℕ) where
   next_more s l i h =
       ap (λ (m : List ℕ). next G T r P (s ∷ m)) (take-suc l i 0 h) ∙ next_append (s ∷ take i l) (get_or l i 0 ∷ [])
 
+-- the objects on the list are those that are counted
+module _ {h : Here} (stands : Stands h) where
+  pub standing_length : length (standing h) ≡ h.count
+  standing_length = length-take-le h.count h.at (omega (arith, stands.few, stands.room))
+
+  pub standing_few : {i : ℕ} → i < length (standing h) → i < h.count
+  standing_few l = omega (arith, standing_length)
+
+  pub standing_inside : {i d : ℕ} → i < length (standing h) → d ≡ get_or (standing h) i 0 → d < h.size
+  standing_inside {i} l e = omega (arith, e, get_or-take h.count h.at i 0 (standing_few l), stands.inside i (standing_few l))
+
 -- .. as the loop makes it
 module _ {root : Root} {objects : List ℕ} {step : Step} {h : Here} where
   pub follows_none : {k : ℕ} {b r : Here} → Begins h.size b → Hopped root.ground h.size objects step root.start k
@@ -124,17 +135,18 @@ module _ {root : Root} {objects : List ℕ} {step : Step} {h : Here} where
         more = omega (arith, pushed.more, begins.count);
       }
 
-  pub follows_more : {b r : Here} {k d i : ℕ} → Stands h → i < h.count → d ≡ get_or h.at i 0 → Follows root objects step h i b
+  pub follows_more : {b r : Here} {k d i : ℕ} → Stands h → i < length (standing h) → d ≡ get_or (standing h) i 0 → Follows root objects step h i b
       → Hopped root.ground h.size objects step d k
       → Pushed b k r
       → Follows root objects step h (i + 1) r
   follows_more {i = i} stands l e before hopped pushed =
+      let few : i < h.count = standing_few stands l in
       record {
         list = λ edges.
             let G = ground_in root.ground objects edges in
             let T = forest_in root.ground h.size objects in
             pushed.list ∙ ap₂ (λ (m : List ℕ) (j : ℕ). m ++ push j []) (before.list edges) (hopped.value edges)
-            ∙ ap (λ (j : ℕ). next_by step G T (root.start ∷ take i h.at) ++ push (hop G T (heading step) step.attribute j) []) e
+            ∙ ap (λ (j : ℕ). next_by step G T (root.start ∷ take i h.at) ++ push (hop G T (heading step) step.attribute j) []) (e ∙ get_or-take h.count h.at i 0 few)
             ∙ rw add-one
             (sym (next_more G T (heading step) step.attribute root.start h.at i (omega (arith, stands.few, stands.room))));
         stands = pushed.stands;
@@ -142,8 +154,8 @@ module _ {root : Root} {objects : List ℕ} {step : Step} {h : Here} where
         more = omega (arith, pushed.more, before.more);
       }
 
-  pub follows_all : {r : Here} {i : ℕ} → i ≤ h.count → h.count ≤ i → Follows root objects step h i r
+  pub follows_all : {r : Here} {i : ℕ} → Stands h → i ≤ length (standing h) → length (standing h) ≤ i → Follows root objects step h i r
       → Follows root objects step h h.count r
-  follows_all {r} {i} a b f =
-      let q : i ≡ h.count = omega arith in
+  follows_all {r} {i} stands a b f =
+      let q : i ≡ h.count = omega (arith, standing_length stands) in
       subst (λ (j : ℕ). Follows root objects step h j r) q f

@@ -3,13 +3,14 @@ use Prim.Native.Nat.{ℕ, zero, suc, ◌+◌, ◌*◌, ◌-◌, ◌%◌, ◌^◌
 use native.Mathlib.Omega.{arith}
 use native.Mathlib.Nat.{one-mul}
 use native.Mathlib.Numerals.{add-one}
-use mathlib.Core.Bool.{Bool, true, false, So, cond, not, ◌&&◌, ◌||◌, and-false}
+use Rattle.std.specs.Prelude.{Option, Some, None, is_some}
+use Rattle.forest.specs.Kept.{number}
+use mathlib.Core.Bool.{Bool, true, false, true≢false, false≢true, So, cond, not, ◌&&◌, ◌||◌, and-false}
 use mathlib.Core.List.{List, [], ◌∷◌}
 use mathlib.Core.Path.{◌≡◌, refl, sym, ap, ap₂, ◌∙◌}
 use lib.Dec.{eqb, ltb}
-use lib.ListN.{length, get_or, take}
+use lib.ListN.{get_or}
 use lib.Pow.{pow_pos, shl_exact}
-use lib.Seq.{take_all}
 use borrow.Author.Tests.{eqb-true, eq-eqb, ne_eqb, lt-ltb}
 use Rattle.records.specs.Layout.{max_classes, object_part}
 use Rattle.records.specs.Schema.{Schema}
@@ -19,8 +20,9 @@ use Rattle.records.specs.Helpers.Loops.{any_of}
 use Rattle.chase.specs.ClassSet.{meets, full}
 use Rattle.chase.specs.Axioms.{collect, needs_by, needs}
 use Rattle.chase.specs.Forest.{Forest, kid, parent, asks, classes_of, lacks}
-use Rattle.records.proofs.General.LoopLaws.{any_next, any_map}
-use Rattle.records.proofs.General.BoolLaws.{or_left, or_right, and_both, and_parts}
+use Rattle.std.specs.List.{list_any}
+use Rattle.records.proofs.General.LoopLaws.{any_map}
+use Rattle.records.proofs.General.BoolLaws.{and_both, and_parts}
 use Rattle.records.proofs.AcceptedLaws.{passes_1}
 use Rattle.chase.proofs.AcceptanceLaws.{accepted-signature}
 use Rattle.primary.specs.Words.{edge_of}
@@ -40,77 +42,64 @@ unlinked w P d n = go (eqb (maker_in w) d && eqb (attribute_in w) P) refl
         absurd (n (omega (arith, eqb-true (maker_in w) d k.0, eqb-true (attribute_in w) P k.1)))
     go false q = refl
 
--- the value made of P at d, among the objects below e
+-- the value made of P at d is not among the objects from e to n
 module _ (g : ℕ) (objects : List ℕ) (P d : ℕ) where
-  abbrev pub Found : ℕ → ℕ → Type 0
-  Found e found = (edges : List ℕ) → found ≡ kid (ground_in g objects edges) (forest_in g e objects) P d
+  abbrev kid_below : ℕ → List ℕ → ℕ
+  kid_below e edges = kid (ground_in g objects edges) (forest_in g e objects) P d
 
-  pub found_none : g ≤ length objects → Found g 0
-  unfolding kid
-  found_none h edges = sym (ap (λ (T : Forest). kid (ground_in g objects edges) T P d) (forest_none g g objects h))
+  abbrev pub Below : ℕ → ℕ → Type 0
+  Below e n = (edges : List ℕ) → kid_below e edges ≡ kid_below n edges
 
-  found_next : (e n : ℕ) → Laid g n objects → g ≤ e → e < n → (edges : List ℕ)
-      → kid (ground_in g objects edges) (forest_in g (e + 1) objects) P d
-      ≡ cond (eqb (maker_in (get_or objects e 0)) d && eqb (attribute_in (get_or objects e 0)) P) (suc e)
-      (kid (ground_in g objects edges) (forest_in g e objects) P d)
-  unfolding kid
-  found_next e n laid h k edges =
-      let w = get_or objects e 0 in
-      let here : Laid g e objects = record { room = laid.room; ground = h; fits = omega (arith, laid.fits) } in
-      rw add-one
-      (ap (λ (T : Forest). kid (ground_in g objects edges) T P d) (forest_more g e objects h (omega (arith, laid.fits, laid.room)))
-      ∙ ap
-      (λ (s : ℕ). cond (eqb (maker_in w) d && eqb (attribute_in w) P) (suc s) (kid (ground_in g objects edges) (forest_in g e objects) P d))
-      (size_laid g e objects here objects edges))
+  module _ (n : ℕ) (laid : Laid g n objects) where
+    pub below_first : (e : ℕ) → g ≤ e → e ≤ g → Below e n → (edges : List ℕ) → 0 ≡ kid_below n edges
+    unfolding kid
+    below_first e a b h edges =
+        let q : e ≡ g = omega arith in
+        sym (ap (λ (T : Forest). kid (ground_in g objects edges) T P d) (forest_none g g objects (omega (arith, laid.room, laid.ground, laid.fits))))
+        ∙ ap (λ (k : ℕ). kid_below k edges) (sym q) ∙ h edges
 
-  module _ (e n f : ℕ) (laid : Laid g n objects) (h : g ≤ e) (k : e < n) where
-    turn : (b : Bool) → eqb (maker_in (get_or objects e 0)) d && eqb (attribute_in (get_or objects e 0)) P ≡ b
-        → ((edges : List ℕ) → f ≡ cond b (suc e) (kid (ground_in g objects edges) (forest_in g e objects) P d)) → Found (e + 1) f
-    turn b q c edges =
-        c edges
-        ∙ sym (found_next e n laid h k edges ∙ ap (λ (b : Bool). cond b (suc e) (kid (ground_in g objects edges) (forest_in g e objects) P d)) q)
+    next : (e : ℕ) → g ≤ e → e < n → (edges : List ℕ)
+        → kid_below (e + 1) edges
+        ≡ cond (eqb (maker_in (get_or objects e 0)) d && eqb (attribute_in (get_or objects e 0)) P) (suc e) (kid_below e edges)
+    unfolding kid
+    next e h k edges =
+        let w = get_or objects e 0 in
+        let here : Laid g e objects = record { room = laid.room; ground = h; fits = omega (arith, laid.fits) } in
+        rw add-one
+        (ap (λ (T : Forest). kid (ground_in g objects edges) T P d) (forest_more g e objects h (omega (arith, laid.fits, laid.room)))
+        ∙ ap (λ (s : ℕ). cond (eqb (maker_in w) d && eqb (attribute_in w) P) (suc s) (kid_below e edges)) (size_laid g e objects here objects edges))
 
-    pub found_met : d < object_part → get_or objects e 0 % link_part ≡ link P d → f ≡ e + 1 → Found (e + 1) f
-    found_met small q is = turn true (linked (get_or objects e 0) P d small q) (λ edges. is ∙ add-one e)
+    -- the object below e is the value, or it is passed
+    module _ (e : ℕ) (h : g < e) (k : e ≤ n) (b : Below e n) where
+      before : (edges : List ℕ) → kid_below (e - 1 + 1) edges ≡ kid_below n edges
+      before edges = let q : e - 1 + 1 ≡ e = omega arith in ap (λ (i : ℕ). kid_below i edges) q ∙ b edges
 
-    pub found_passed : (found : ℕ) → Found e found → (get_or objects e 0 % link_part ≡ link P d → ⊥) → f ≡ found → Found (e + 1) f
-    found_passed found before q is = turn false (unlinked (get_or objects e 0) P d q) (λ edges. is ∙ before edges)
+      turn : (t : Bool) → eqb (maker_in (get_or objects (e - 1) 0)) d && eqb (attribute_in (get_or objects (e - 1) 0)) P ≡ t → (edges : List ℕ)
+          → cond t (suc (e - 1)) (kid_below (e - 1) edges) ≡ kid_below n edges
+      turn t q edges =
+          sym (next (e - 1) (omega arith) (omega arith) edges ∙ ap (λ (t : Bool). cond t (suc (e - 1)) (kid_below (e - 1) edges)) q) ∙ before edges
 
-  pub found_all : (e n f : ℕ) → e ≤ n → n ≤ e → Found e f → Found n f
-  found_all e n f a b h edges =
-      let q : e ≡ n = omega arith in h edges ∙ ap (λ (k : ℕ). kid (ground_in g objects edges) (forest_in g k objects) P d) q
+      pub below_met : d < object_part → get_or objects (e - 1) 0 % link_part ≡ link P d → (edges : List ℕ) → e - 1 + 1 ≡ kid_below n edges
+      below_met small q edges = add-one (e - 1) ∙ turn true (linked (get_or objects (e - 1) 0) P d small q) edges
 
--- the query's pairs, among the first i edges
+      pub below_more : (get_or objects (e - 1) 0 % link_part ≡ link P d → ⊥) → Below (e - 1) n
+      below_more q edges = turn false (unlinked (get_or objects (e - 1) 0) P d q) edges
+
+-- the library's search of a list is the one of the model
+pub any_listed : {A : Type 0} (test : A → Bool) (l : List A) → list_any test l ≡ any_of test l
+unfolding any_of
+any_listed test [] = refl
+any_listed test (a ∷ l) = ap (λ (b : Bool). test a || b) (any_listed test l)
+
+-- the query's pairs
 module _ (l : List ℕ) (P d : ℕ) where
   -- the test of one edge
-  abbrev from : ℕ → Bool
+  abbrev pub from : ℕ → Bool
   from w = eqb (edge_of w).attribute P && eqb (edge_of w).origin d
 
-  abbrev pub Unasked : ℕ → Type 0
-  Unasked i = any_of from (take i l) ≡ false
-
-  pub unasked_none : Unasked 0
-  unfolding any_of
-  unasked_none = refl
-
-  pub unasked_more : (i : ℕ) → i < length l → Unasked i → from (get_or l i 0) ≡ false → Unasked (i + 1)
-  unasked_more i h u q = rw add-one (any_next from l i 0 h ∙ ap₂ ◌||◌ u q)
-
-  asks_words : (g : ℕ) (objects : List ℕ) → asks (ground_in g objects l) P d ≡ any_of from l
+  pub asks_words : (g : ℕ) (objects : List ℕ) → list_any from l ≡ asks (ground_in g objects l) P d
   unfolding asks
-  asks_words g objects = any_map (λ e. eqb e.attribute P && eqb e.origin d) edge_of l
-
-  pub unasked_all : (i : ℕ) → length l ≤ i → Unasked i → (g : ℕ) (objects : List ℕ) → false ≡ asks (ground_in g objects l) P d
-  unasked_all i h u g objects = sym (asks_words g objects ∙ sym (ap (any_of from) (take_all i l h)) ∙ u)
-
-  any_here : (m : List ℕ) (i : ℕ) → i < length m → So (from (get_or m i 0)) → So (any_of from m)
-  unfolding any_of
-  any_here [] i h q = absurd (omega arith)
-  any_here (w ∷ m) zero h q = or_left (from w) (any_of from m) q
-  any_here (w ∷ m) (suc i) h q = or_right (from w) (any_of from m) (any_here m i (omega arith) q)
-
-  pub asked_here : (i : ℕ) → i < length l → So (from (get_or l i 0)) → (g : ℕ) (objects : List ℕ) → true ≡ asks (ground_in g objects l) P d
-  asked_here i h q g objects = sym (asks_words g objects ∙ any_here l i h q)
+  asks_words g objects = any_listed from l ∙ sym (any_map (λ e. eqb e.attribute P && eqb e.origin d) edge_of l)
 
 -- the mask of all classes, shifted in a word of 32 bits
 module _ (w : List ℕ) (ok : AcceptedSchema w) (k : ℕ) (q : k ≡ (schema_of w).signature.classes) where
@@ -170,11 +159,14 @@ module _ (g n : ℕ) (objects : List ℕ) (laid : Laid g n objects) (edges : Lis
       sym (and-false (meets (classes_in (get_or objects d 0)) mask))
       ∙ tests (meets (classes_in (get_or objects d 0)) mask) true (kid (ground_in g objects edges) (forest_in g n objects) P d) refl q refl
 
-  pub lacks_value : (k : ℕ) → So (meets (classes_in (get_or objects d 0)) mask) → asks (ground_in g objects edges) P d ≡ false
-      → k ≡ kid (ground_in g objects edges) (forest_in g n objects) P d
-      → Lacks (eqb k 0)
-  lacks_value k p q r = none k ∙ tests true false k p q (sym r)
+  pub lacks_value : (o : Option ℕ) (r : Bool) → is_some o ≡ not r → So (meets (classes_in (get_or objects d 0)) mask)
+      → asks (ground_in g objects edges) P d ≡ false
+      → number o ≡ kid (ground_in g objects edges) (forest_in g n objects) P d
+      → Lacks r
+  lacks_value o r e p q k = none o r e ∙ tests true false (number o) p q (sym k)
     where
-      none : (k : ℕ) → eqb k 0 ≡ not (ltb 0 k)
-      none zero = refl
-      none (suc k) = ne_eqb (suc k) 0 (λ q. omega arith) ∙ sym (ap not (lt-ltb 0 (suc k) (omega arith)))
+      none : (o : Option ℕ) (r : Bool) → is_some o ≡ not r → r ≡ not (ltb 0 (number o))
+      none None true e = refl
+      none None false e = absurd (false≢true e)
+      none (Some k) true e = absurd (true≢false e)
+      none (Some k) false e = sym (ap not (lt-ltb 0 (k + 1) (omega arith)))

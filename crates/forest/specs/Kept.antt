@@ -1,5 +1,5 @@
 -- What the array of objects keeps: class sets that fit their words, and makers that came before.
-use Rattle.std.specs.Prelude.{ℕ, ◌≤◌, ◌<◌, ◌^◌, List, ◌≡◌, get_or, take}
+use Rattle.std.specs.Prelude.{ℕ, ◌+◌, ◌≤◌, ◌<◌, ◌^◌, List, ◌≡◌, get_or, take, Option, Some, None}
 use Rattle.records.specs.Layout.{max_objects}
 use Rattle.chase.specs.Forest.{Forest, size}
 use Rattle.ground.specs.Objects.{classes_in, maker_in, forest_in, ground_in, Laid}
@@ -20,3 +20,8 @@ pub record Grows (g n r : ℕ) (before after : List ℕ) (T : Forest) : Type 0 w
 -- there is room for the forest T
 abbrev pub Fits : ℕ → List ℕ → List ℕ → Forest → Type 0
 Fits g objects edges T = size (ground_in g objects edges) T ≤ max_objects
+
+-- the model's number for an object that may not be there: 0 for none, e + 1 for object e
+abbrev pub number : Option ℕ → ℕ
+number None = 0
+number (Some e) = e + 1

@@ -7,7 +7,6 @@ use crate::objects::{OBJECTS, classes_at, lacks, word};
 use crate::places::{Here, Root, Step};
 use classes::closure::image;
 use classes::collect::needs_mask;
-use records::layout::wide;
 
 // An attribute, and the classes that need a value of it.
 #[derive(Clone, Copy)]
@@ -50,10 +49,9 @@ fn make_all(
     requires { CanMakeAll schema.now edges.now objects.old g n need list.now }
     ensures { Grows g n result objects.old objects.new (made_all schema.now edges.now objects.old g n need list.now) }
 {
-    let count = list.len();
     let mut size = n;
-    for i in 0..count {
-        size = make(schema, edges, g, size, need, wide(list[i]), objects);
+    for &d in list {
+        size = make(schema, edges, g, size, need, usize::from(d), objects);
     }
     size
 }
@@ -79,7 +77,5 @@ pub fn make_for(
     let g = root.ground;
     let s = root.start;
     let n = make(schema, edges, g, here.size, need, s, objects);
-    let at = here.at;
-    let count = here.count;
-    make_all(schema, edges, g, n, need, &at[..count], objects)
+    make_all(schema, edges, g, n, need, here.standing(), objects)
 }

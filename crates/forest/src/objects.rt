@@ -8,12 +8,11 @@ ghost use Rattle.chase.specs.Axioms.{collect, needs_by};
 ghost use Rattle.chase.specs.ClassSet.{full as full_set};
 ghost use Rattle.chase.specs.Forest.{kid as kid_in, parent as parent_in, asks as asks_in, classes_of, lacks as lacks_in};
 ghost use Rattle.ground.specs.Objects.{link, object_word, classes_in, forest_in, ground_in, Laid};
-ghost use Rattle.forest.specs.Kept.{Kept};
+ghost use Rattle.forest.specs.Kept.{Kept, number};
 
 use classes::sets::meets;
 use ground::lay::LINK_PART;
 use primary::rules::PART;
-use records::layout::wide;
 use records::schema::signature_of;
 use records::state::MAX_OBJECTS;
 
@@ -22,19 +21,12 @@ pub const OBJECTS: usize = MAX_OBJECTS;
 // A link is an attribute times this plus a maker.
 const OBJECT_PART: u64 = records::state::OBJECT_PART as u64;
 
-fn narrow(x: u64) -> u32
-    requires { x < 2 ^ 32 }
-    ensures { result ≡ x }
-{
-    x as u32
-}
-
 // The word of a made object.
 pub fn word(classes: u32, attribute: usize, maker: usize) -> u64
     requires { (attribute < max_attributes) × (maker < object_part) }
     ensures { result ≡ object_word classes (link attribute maker) }
 {
-    classes as u64 * LINK_PART + (attribute as u64 * OBJECT_PART + maker as u64)
+    u64::from(classes) * LINK_PART + (attribute as u64 * OBJECT_PART + maker as u64)
 }
 
 // The class set of an object's word.
@@ -42,7 +34,7 @@ pub fn classes_at(objects: &[u64; OBJECTS], d: usize) -> u32
     requires { (length objects.now ≡ max_objects) × (d < max_objects) × (classes_in (get_or objects.now d 0) < 2 ^ 32) }
     ensures { result ≡ classes_in (get_or objects.now d 0) }
 {
-    narrow(objects[d] / LINK_PART)
+    (objects[d] / LINK_PART) as u32
 }
 
 // The set of all classes.
@@ -66,48 +58,55 @@ pub fn classes_of(schema: &[u16], objects: &[u64; OBJECTS], g: usize, n: usize, 
     }
 }
 
-// The value made of the attribute at an object: 0 for none, e + 1 for object e.
-pub fn kid(objects: &[u64; OBJECTS], g: usize, n: usize, attribute: usize, d: usize) -> usize
+// The value made of the attribute at an object.
+pub fn kid(
+    objects: &[u64; OBJECTS],
+    g: usize,
+    n: usize,
+    attribute: usize,
+    d: usize,
+) -> Option<usize>
     requires { Laid g n objects.now × (attribute < max_attributes) × (d < object_part) }
-    ensures { (edges : List ℕ) → result ≡ kid_in (ground_in g objects.now edges) (forest_in g n objects.now) attribute d }
+    ensures { (edges : List ℕ) → number result ≡ kid_in (ground_in g objects.now edges) (forest_in g n objects.now) attribute d }
 {
     let link = attribute as u64 * OBJECT_PART + d as u64;
-    let mut found = 0;
-    for e in g..n {
+    for e in (g..n).rev() {
         if objects[e] % LINK_PART == link {
-            found = e + 1;
+            return Some(e);
         }
     }
-    found
+    None
 }
 
-// The maker of an object, if it was made as a value of the attribute: 0 for none, d + 1 for object d.
-pub fn parent(objects: &[u64; OBJECTS], g: usize, n: usize, attribute: usize, e: usize) -> usize
+// The maker of an object, if it was made as a value of the attribute.
+pub fn parent(
+    objects: &[u64; OBJECTS],
+    g: usize,
+    n: usize,
+    attribute: usize,
+    e: usize,
+) -> Option<usize>
     requires { Laid g n objects.now × (e < n) }
-    ensures { (edges : List ℕ) → result ≡ parent_in (ground_in g objects.now edges) (forest_in g n objects.now) attribute e }
+    ensures { (edges : List ℕ) → number result ≡ parent_in (ground_in g objects.now edges) (forest_in g n objects.now) attribute e }
 {
     if e < g {
-        return 0;
+        return None;
     }
     let link = objects[e] % LINK_PART;
     if link / OBJECT_PART != attribute as u64 {
-        return 0;
+        return None;
     }
-    (link % OBJECT_PART) as usize + 1
+    Some((link % OBJECT_PART) as usize)
 }
 
 // The query has a pair of the attribute from the object.
 pub fn asks(edges: &[u16], attribute: usize, d: usize) -> bool
     ensures { (g : ℕ) (objects : List ℕ) → result ≡ asks_in (ground_in g objects edges.now) attribute d }
 {
-    let n = edges.len();
-    for i in 0..n {
-        let w = wide(edges[i]);
-        if (w / PART / PART == attribute) & (w / PART % PART == d) {
-            return true;
-        }
-    }
-    false
+    edges.iter().any(|&edge| {
+        let w = usize::from(edge);
+        w / PART / PART == attribute && w / PART % PART == d
+    })
 }
 
 // The object needs a value of the attribute, and has none. The mask has the classes that need one. Most objects need none,
@@ -130,5 +129,5 @@ pub fn lacks(
     if asks(edges, attribute, d) {
         return false;
     }
-    kid(objects, g, n, attribute, d) == 0
+    kid(objects, g, n, attribute, d).is_none()
 }

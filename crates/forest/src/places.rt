@@ -1,12 +1,11 @@
 // Where a walk of the view starts and stands, and where a step leads.
-ghost use Rattle.std.specs.Prelude.{◌≤◌, ◌<◌, ◌^◌};
+ghost use Rattle.std.specs.Prelude.{◌≡◌, ◌≤◌, ◌<◌, ◌^◌};
 ghost use Rattle.records.specs.Layout.{max_attributes};
-ghost use Rattle.forest.specs.Kept.{Kept};
-ghost use Rattle.forest.specs.Places.{max_places, Stands, Ready, Begins, Hopped, Pushed, Follows};
+ghost use Rattle.forest.specs.Kept.{Kept, number};
+ghost use Rattle.forest.specs.Places.{max_places, standing, Stands, Ready, Begins, Hopped, Pushed, Follows};
 
 use crate::objects::{OBJECTS, kid, parent};
 use records::concept::View;
-use records::layout::{narrow, wide};
 
 // Each step leaves at most one made object more on the list.
 const PLACES: usize = View::STEPS;
@@ -46,30 +45,37 @@ pub fn begin(n: usize) -> Here
 }
 
 impl Here {
-    // The object that a number stands for, if any, goes to the end of the list.
-    fn push(mut self, k: usize) -> Here
-        requires { Stands self × (self.count < max_places) × (self.size < 2 ^ 16) × (k ≤ self.size) }
-        ensures { Pushed self k result }
+    // The made objects on the list.
+    pub fn standing(&self) -> &[u16]
+        requires { self.now.count ≤ max_places }
+        ensures { result.now ≡ standing self.now }
     {
-        if k == 0 {
-            return self;
+        &self.at[..self.count]
+    }
+
+    // The object, if any, goes to the end of the list.
+    fn push(mut self, object: Option<usize>) -> Here
+        requires { Stands self × (self.count < max_places) × (self.size < 2 ^ 16) × (number object ≤ self.size) }
+        ensures { Pushed self (number object) result }
+    {
+        if let Some(e) = object {
+            self.at[self.count] = e as u16;
+            self.count += 1;
         }
-        let i = self.count;
-        self.at[i] = narrow(k - 1);
-        self.count += 1;
         self
     }
 }
 
 // Where a step leads from an object within the made part.
-fn hop(objects: &[u64; OBJECTS], g: usize, n: usize, step: Step, d: usize) -> usize
+fn hop(objects: &[u64; OBJECTS], g: usize, n: usize, step: Step, d: usize) -> Option<usize>
     requires { Kept g n objects.now × (step.attribute < max_attributes) × (d < n) }
-    ensures { Hopped g n objects.now step d result }
+    ensures { Hopped g n objects.now step d (number result) }
 {
     if step.backward {
-        return parent(objects, g, n, step.attribute, d);
+        parent(objects, g, n, step.attribute, d)
+    } else {
+        kid(objects, g, n, step.attribute, d)
     }
-    kid(objects, g, n, step.attribute, d)
 }
 
 // The made objects after a step from the start and from those on the list.
@@ -77,14 +83,11 @@ pub fn next(objects: &[u64; OBJECTS], root: Root, step: Step, here: Here) -> Her
     requires { Ready objects.now root here × (step.attribute < max_attributes) × (here.count < max_places) }
     ensures { Follows root objects.now step here here.count result }
 {
-    let at = here.at;
     let n = here.size;
     let none = begin(n);
     let mut after = none.push(hop(objects, root.ground, n, step, root.start));
-    let count = here.count;
-    for i in 0..count {
-        let more = after.push(hop(objects, root.ground, n, step, wide(at[i])));
-        after = more;
+    for &d in here.standing() {
+        after = after.push(hop(objects, root.ground, n, step, usize::from(d)));
     }
     after
 }

@@ -38,10 +38,7 @@ fn walk(
         // Nothing is made.
         Token::Class(_) | Token::Everything | Token::Constant(_) | Token::Mark(_) => here.size,
         Token::Both => both(schema, view, edges, root, at, here, objects),
-        Token::Reached => {
-            let there = trek(schema, view, edges, root, at, here, objects);
-            there.size
-        }
+        Token::Reached => { trek(schema, view, edges, root, at, here, objects).size }
         Token::Common => common(schema, view, edges, root, at, here, objects),
         // A path's tokens end no concept.
         Token::Empty | Token::Forward(_) | Token::Backward(_) => here.size,
@@ -104,33 +101,18 @@ fn trek(
     ensures { Trekked schema.now view.now edges.now objects.old root end here objects.new result }
 {
     let at = end - 1;
-    match token_at(view, at) {
-        Token::Empty => here,
-        Token::Forward(attribute) => {
-            let ahead = Step {
-                at,
-                attribute,
-                backward: false,
-            };
-            step(schema, view, edges, root, ahead, here, objects)
-        }
-        Token::Backward(attribute) => {
-            let back = Step {
-                at,
-                attribute,
-                backward: true,
-            };
-            step(schema, view, edges, root, back, here, objects)
-        }
-        // A concept's tokens end no path.
-        Token::Class(_)
-        | Token::Everything
-        | Token::Constant(_)
-        | Token::Both
-        | Token::Reached
-        | Token::Common
-        | Token::Mark(_) => here,
-    }
+    let (attribute, backward) = match token_at(view, at) {
+        Token::Forward(attribute) => (attribute, false),
+        Token::Backward(attribute) => (attribute, true),
+        // The empty path; a concept's tokens end no path.
+        _ => return here,
+    };
+    let last = Step {
+        at,
+        attribute,
+        backward,
+    };
+    step(schema, view, edges, root, last, here, objects)
 }
 
 // The path with a step at its end.

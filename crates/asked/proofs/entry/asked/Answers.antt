@@ -1,11 +1,7 @@
 -- The whole query is the concept that ends at its last token, and the list starts empty (AskedLaws).
-use native.Mathlib.Omega.{arith}
 use mathlib.Core.Path.{refl}
 use Rattle.asked.proofs.AskedLaws.{place_last, concept_last, asked_last}
 use Rattle.asked.proofs.entry.asked.Goals as goal
-
-pub overflow_add-start : goal.overflow_add-start
-overflow_add-start c = omega (arith, c.word-start.ensures.word)
 
 pub concept-requires : goal.concept-requires
 concept-requires c = record { place = place_last c.args.schema.now c.args.query.now c.requires.accepted_schema c.requires.accepted_concept c.tokens.ensures.value c.word-start.ensures.value _ refl refl; has_concept = concept_last c.args.schema.now c.args.query.now c.requires.accepted_schema c.requires.accepted_concept c.tokens.ensures.value c.word-start.ensures.value }

@@ -1,22 +1,24 @@
 -- The span of tokens falls: an operand ends before its item does, and the measure is twice the place where the item ends.
 -- A token's own function stands between: its measure is one more than that of the operands that end at its place. Each answer
 -- cites what the operands' facts make (ItemLaws).
-use mathlib.Core.Path.{sym, ◌∙◌}
+use Prim.Native.Nat.{◌-◌}
+use mathlib.Core.Path.{◌≡◌, refl, sym, ◌∙◌}
 use Rattle.records.specs.Concept.{direction_of}
+use Rattle.records.specs.ConceptRecord.{token_at}
+use Rattle.records.specs.Helpers.Reading.{step_token}
 use Rattle.records.proofs.PileLaws.{start_le}
-use Rattle.records.proofs.ReadingLaws.{concept_some, path_some, concept_next, path_next, concept_reads, step_reads, concept_suc, path_suc, concept_token, path_token, concept_not_path, path_not_concept}
-use Rattle.asked.proofs.PlaceLaws.{place_earlier, place_node, place_room, place_small, place_number}
-use Rattle.asked.proofs.ItemLaws.{place_between, place_below, place_after, both_grown, common_grown, step_grown, left_small, right_small, token_named, step_named, class_grown, constant_grown, mark_grown, reached_grown, everything_grown, empty_grown, concept_place, path_place, concept_put, path_put}
+use Rattle.records.proofs.ReadingLaws.{concept_some, path_some, concept_next, path_next, concept_reads, step_reads, concept_suc, path_suc, concept_token, path_token, concept_not_path}
+use Rattle.asked.proofs.EndLaws.{no_step}
+use Rattle.asked.proofs.PlaceLaws.{place_earlier, place_node, place_room, place_number}
+use Rattle.asked.proofs.ItemLaws.{place_below, place_after, both_grown, common_grown, step_grown, left_small, right_small, token_named, step_named, class_grown, constant_grown, mark_grown, reached_grown, everything_grown, empty_grown, concept_place, path_place, concept_put, path_put}
 use native.Mathlib.Omega.{arith}
 use Rattle.asked.proofs.items.+both_common_concept_path_step.Goals as goal
+use Rattle.asked.proofs.items.+both_common_concept_path_step.Goals.{path-in-Forward, path-in-Backward}
 
 pub both-concept-after-requires : goal.both-concept-after-requires
 both-concept-after-requires t c =
     let r = concept_reads c.args.query.now c.args.at _ c.requires.has_concept c.requires.at_value in
     (omega (arith, c.decreases), (place_earlier c.requires.place (omega arith), r.2))
-
-pub both-start_of-requires : goal.both-start_of-requires
-both-start_of-requires t c = omega (arith, place_small c.requires.place)
 
 pub both-concept-requires : goal.both-concept-requires
 both-concept-requires t c =
@@ -33,20 +35,22 @@ common-path-after-requires t c =
     let r = concept_reads c.args.query.now c.args.at _ c.requires.has_concept c.requires.at_value in
     (omega (arith, c.decreases), (place_earlier c.requires.place (omega arith), r.2))
 
-pub common-start_of-middle-requires : goal.common-start_of-middle-requires
-common-start_of-middle-requires t c = omega (arith, place_small c.requires.place)
+pub common-end_of-left-requires-clause-has_path : goal.common-end_of-left-requires-clause-has_path
+common-end_of-left-requires-clause-has_path t c =
+    let r = concept_reads c.args.query.now c.args.at _ c.requires.has_concept c.requires.at_value in
+    rw c.start_of-middle.ensures r.3
 
-pub common-end_of-left-requires : goal.common-end_of-left-requires
-common-end_of-left-requires t c = let r = concept_reads c.args.query.now c.args.at _ c.requires.has_concept c.requires.at_value in
-    record { end_bound = place_small (place_below c.requires.place c.start_of-middle.ensures c.path-after.ensures); has_path = rw c.start_of-middle.ensures r.3 }
+pub common-end_of-right-requires-clause-has_path : goal.common-end_of-right-requires-clause-has_path
+common-end_of-right-requires-clause-has_path t c =
+    let r = concept_reads c.args.query.now c.args.at _ c.requires.has_concept c.requires.at_value in
+    r.2
 
-pub common-end_of-right-requires : goal.common-end_of-right-requires
-common-end_of-right-requires t c = let r = concept_reads c.args.query.now c.args.at _ c.requires.has_concept c.requires.at_value in
-    record { end_bound = omega (arith, place_small c.requires.place); has_path = r.2 }
-
-pub common-add_equation-joined-requires : goal.common-add_equation-joined-requires
-common-add_equation-joined-requires t c = let r = concept_reads c.args.query.now c.args.at _ c.requires.has_concept c.requires.at_value in
-    record { room = place_room (place_between c.requires.place c.start_of-middle.ensures c.path-after.ensures) (omega arith); left_lt_part = (omega (arith, left_small c.requires.place c.start_of-middle.ensures r.3 c.end_of-left.ensures), right_small c.requires.place r.2 c.end_of-right.ensures) }
+pub common-add_equation-joined-requires-clause-left_lt_part : goal.common-add_equation-joined-requires-clause-left_lt_part
+common-add_equation-joined-requires-clause-left_lt_part t c =
+    let r = concept_reads c.args.query.now c.args.at _ c.requires.has_concept c.requires.at_value in (
+      omega (arith, left_small c.requires.place c.start_of-middle.ensures r.3 c.end_of-left.ensures),
+      right_small c.requires.place r.2 c.end_of-right.ensures,
+    )
 
 pub common-path-requires : goal.common-path-requires
 common-path-requires t c =
@@ -61,9 +65,6 @@ common-returns t c =
 
 pub concept-overflow_sub-at : goal.concept-overflow_sub-at
 concept-overflow_sub-at t c = concept_some c.args.query.now _ c.requires.has_concept
-
-pub concept-token_at-requires : goal.concept-token_at-requires
-concept-token_at-requires t c = omega (arith, place_small c.requires.place)
 
 pub concept-add_member-requires : goal.concept-add_member-requires
 concept-add_member-requires t c = let h = c.requires.has_concept in
@@ -146,38 +147,26 @@ concept-returns-in-Empty t c = absurd (concept_not_path c.args.query.now _ c.req
 pub path-overflow_sub-at : goal.path-overflow_sub-at
 path-overflow_sub-at t c = path_some c.args.query.now _ c.requires.has_path
 
-pub path-token_at-requires : goal.path-token_at-requires
-path-token_at-requires t c = omega (arith, place_small c.requires.place)
-
 pub path-step-requires : goal.path-step-requires
 path-step-requires t c =
     let h = c.requires.has_path in
-    let q = sym c.token_at.ensures ∙ c.in-Forward.is in
+    let q : token_at c.args.query.now (c.args.end - 1) ≡ step_token (direction_of c.match-token_at.attribute.1) c.match-token_at.attribute.0 =
+    elim c.match-token_at.branch [
+      | path-in-Forward w ↦ rw w.attribute-is (sym c.token_at.ensures ∙ w.in-Forward.is)
+      | path-in-Backward w ↦ rw w.attribute-is (sym c.token_at.ensures ∙ w.in-Backward.is)
+    ] in
     (omega (arith, c.decreases, path_next c.args.query.now _ h), (path_place c.requires.place h, (path_suc c.args.query.now _ h, q)))
 
-pub path-step-requires-in-Backward : goal.path-step-requires-in-Backward
-path-step-requires-in-Backward t c =
+pub path-returns-in_default : goal.path-returns-in_default
+path-returns-in_default t c =
     let h = c.requires.has_path in
-    let q = sym c.token_at.ensures ∙ c.in-Backward.is in
-    (omega (arith, c.decreases, path_next c.args.query.now _ h), (path_place c.requires.place h, (path_suc c.args.query.now _ h, q)))
+    let reads = path_token c.args.query.now _ h refl in
+    path_put c.requires.place h
+    (empty_grown (path_place c.requires.place h)
+    (no_step _ _ _ reads (λ P q. c.in_default.not-Forward P (c.token_at.ensures ∙ q)) (λ P q. c.in_default.not-Backward P (c.token_at.ensures ∙ q))))
 
-pub path-returns-in-Empty : goal.path-returns-in-Empty
-path-returns-in-Empty t c =
-    let h = c.requires.has_path in
-    let q = sym c.token_at.ensures ∙ c.in-Empty.is in
-    path_put c.requires.place h (empty_grown (path_place c.requires.place h) (path_token c.args.query.now _ h q))
-
-pub path-returns-in-Forward : goal.path-returns-in-Forward
-path-returns-in-Forward t c = path_put c.requires.place c.requires.has_path c.step.ensures
-
-pub path-returns-in-Backward : goal.path-returns-in-Backward
-path-returns-in-Backward t c = path_put c.requires.place c.requires.has_path c.step-in-Backward.ensures
-
-pub path-returns-in-Class : goal.path-returns-in-Class
-path-returns-in-Class t c = absurd (path_not_concept c.args.query.now _ c.requires.has_path (rw (← c.token_at.ensures) c.in-Class.is))
-
-pub step-step_number-landing-requires : goal.step-step_number-landing-requires
-step-step_number-landing-requires t c = omega (arith, place_small c.requires.place)
+pub path-returns : goal.path-returns
+path-returns t c = path_put c.requires.place c.requires.has_path c.step.ensures
 
 pub step-concept-after-requires : goal.step-concept-after-requires
 step-concept-after-requires t c =
@@ -185,16 +174,18 @@ step-concept-after-requires t c =
     let z = place_earlier c.requires.place {d = c.args.step.at} (omega arith) in
     (omega (arith, c.decreases), (place_node z (rw c.step_number-landing.ensures (place_number z)), r.2))
 
-pub step-start_of-middle-requires : goal.step-start_of-middle-requires
-step-start_of-middle-requires t c = omega (arith, place_small c.requires.place)
+pub step-end_of-origin-requires-clause-has_path : goal.step-end_of-origin-requires-clause-has_path
+step-end_of-origin-requires-clause-has_path t c =
+    let r = step_reads c.args.query.now c.args.step.at (direction_of c.args.step.backward) c.args.step.attribute c.requires.has_path c.requires.at_value in
+    rw c.start_of-middle.ensures r.3
 
-pub step-end_of-origin-requires : goal.step-end_of-origin-requires
-step-end_of-origin-requires t c = let r = step_reads c.args.query.now c.args.step.at (direction_of c.args.step.backward) c.args.step.attribute c.requires.has_path c.requires.at_value in
-    record { end_bound = place_small (place_below c.requires.place c.start_of-middle.ensures c.concept-after.ensures); has_path = rw c.start_of-middle.ensures r.3 }
-
-pub step-add_edge-led-requires : goal.step-add_edge-led-requires
-step-add_edge-led-requires t c = let r = step_reads c.args.query.now c.args.step.at (direction_of c.args.step.backward) c.args.step.attribute c.requires.has_path c.requires.at_value in
-    record { room = place_room (place_between c.requires.place c.start_of-middle.ensures c.concept-after.ensures) (omega arith); attribute_lt_part = (step_named c.requires.place c.args.step.backward c.requires.at_value, omega (arith, left_small c.requires.place c.start_of-middle.ensures r.3 c.end_of-origin.ensures), omega (arith, c.step_number-landing.ensures, place_number (place_earlier c.requires.place {d = c.args.step.at} (omega arith)))) }
+pub step-add_edge-led-requires-clause-attribute_lt_part : goal.step-add_edge-led-requires-clause-attribute_lt_part
+step-add_edge-led-requires-clause-attribute_lt_part t c =
+    let r = step_reads c.args.query.now c.args.step.at (direction_of c.args.step.backward) c.args.step.attribute c.requires.has_path c.requires.at_value in (
+      step_named c.requires.place c.args.step.backward c.requires.at_value,
+      omega (arith, left_small c.requires.place c.start_of-middle.ensures r.3 c.end_of-origin.ensures),
+      omega (arith, c.step_number-landing.ensures, place_number (place_earlier c.requires.place {d = c.args.step.at} (omega arith))),
+    )
 
 pub step-path-requires : goal.step-path-requires
 step-path-requires t c =

@@ -1,5 +1,4 @@
 -- By the last token, a step or the empty path (EndLaws).
-use native.Mathlib.Omega.{arith}
 use mathlib.Core.Path.{sym, ap, ◌∙◌}
 use Rattle.records.specs.ConceptRefusal.{is_step}
 use Rattle.records.proofs.ReadingLaws.{path_some}
@@ -8,12 +7,6 @@ use Rattle.asked.proofs.items.end_of.Goals as goal
 
 pub overflow_sub-at : goal.overflow_sub-at
 overflow_sub-at c = path_some c.args.query.now _ c.requires.has_path
-
-pub token_at-requires : goal.token_at-requires
-token_at-requires c = omega (arith, c.requires.end_bound)
-
-pub step_number-requires : goal.step_number-requires
-step_number-requires c = omega (arith, c.requires.end_bound)
 
 pub returns-then-is_step : goal.returns-then-is_step
 returns-then-is_step c =

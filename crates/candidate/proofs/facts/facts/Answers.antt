@@ -5,9 +5,6 @@ use Rattle.candidate.proofs.PartLaws.{marks_room}
 use Rattle.candidate.proofs.WriteLaws.{wrote_then}
 use Rattle.candidate.proofs.facts.facts.Goals as goal
 
-pub declared-n-requires : goal.declared-n-requires
-declared-n-requires c = record { ready = c.requires.ready.0; edges_in_bounds = c.requires.edges_in_bounds }
-
 pub mark_facts-requires : goal.mark_facts-requires
 mark_facts-requires c = record { inside = (c.requires.ready.0.inside, c.requires.ready.0.nodes, c.requires.ready.1); room = marks_room _ _ _ _ _ _ c.requires.ready.0 _ refl _ c.requires.edges_in_bounds _ _ c.declared-n.ensures c.allow-s.result c.args.shape.marks.nodes }
 

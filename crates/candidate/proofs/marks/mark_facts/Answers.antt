@@ -14,24 +14,16 @@ use Rattle.candidate.proofs.marks.mark_facts.Goals as goal
 pub loop-k-init : goal.loop-k-init
 loop-k-init c = (omega arith, turn_none _ _ _)
 
-pub bounds-nodes-k : goal.bounds-nodes-k
-bounds-nodes-k c = omega (arith, c.requires.inside.2.room)
-
-pub object_of-d-requires : goal.object_of-d-requires
-object_of-d-requires c =
-    let p = c.requires.inside in
-    (p.0, rw c.wide.ensures (p.2.inside _ c.loop-k-test.true))
-
 pub fact-requires : goal.fact-requires
 fact-requires c =
     let p = c.requires.inside in
-    (omega arith, omega (arith, object_part_lem _ _ _ (p.0, rw c.wide.ensures (p.2.inside _ c.loop-k-test.true)) p.1 c.object_of-d.ensures), omega arith)
+    (omega arith, omega (arith, object_part_lem _ _ _ (p.0, rw c.from.ensures (p.2.inside _ c.loop-k-test.true)) p.1 c.object_of-d.ensures), omega arith)
 
 pub put_if-at-requires : goal.put_if-at-requires
 put_if-at-requires c =
     room_as _ _ _ _
     (ap₂ (λ (b : Bool) (f : ℕ). fact_if b f) c.allows.ensures
-    (c.fact.ensures ∙ ap (mark_fact _) (c.object_of-d.ensures ∙ ap (object_in _) c.wide.ensures)))
+    (c.fact.ensures ∙ ap (mark_fact _) (c.object_of-d.ensures ∙ ap (object_in _) c.from.ensures)))
     (turn_room _ _ _ _ _ _ _ c.loop-k-test.true c.requires.room c.loop-k.invariant.1)
 
 pub loop-k-preserved : goal.loop-k-preserved
@@ -40,12 +32,9 @@ loop-k-preserved c = (
   turn_more _ _ _ _ _ _ _ _ c.loop-k.invariant.1
       (wrote_as _ _ _ _ _ _
       (ap₂ (λ (b : Bool) (f : ℕ). fact_if b f) c.allows.ensures
-      (c.fact.ensures ∙ ap (mark_fact _) (c.object_of-d.ensures ∙ ap (object_in _) c.wide.ensures)))
+      (c.fact.ensures ∙ ap (mark_fact _) (c.object_of-d.ensures ∙ ap (object_in _) c.from.ensures)))
       c.put_if-at.ensures),
 )
-
-pub shape_of-out : goal.shape_of-out
-shape_of-out c = c.loop-k.invariant.1.size
 
 pub returns : goal.returns
 returns c = turn_all _ _ _ _ _ _ _ (le_antisymm c.loop-k.invariant.0 c.loop-k-test.false) c.loop-k.invariant.1

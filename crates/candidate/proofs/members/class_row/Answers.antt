@@ -6,14 +6,8 @@ use Rattle.candidate.proofs.MemberLaws.{class_is}
 use Rattle.candidate.proofs.WriteLaws.{room_as, wrote_as, turn_none, turn_room, turn_more, turn_all}
 use Rattle.candidate.proofs.members.class_row.Goals as goal
 
-pub place-own-requires : goal.place-own-requires
-place-own-requires c = c.requires.sized.1
-
 pub loop-d-init : goal.loop-d-init
 loop-d-init c = (omega arith, turn_none _ _ _)
-
-pub classes_of-set-requires : goal.classes_of-set-requires
-classes_of-set-requires c = let s = c.requires.sized.0 in (s.legal, s.kept, omega (arith, s.closing))
 
 pub fact-requires : goal.fact-requires
 fact-requires c = (omega (arith, c.requires.sized.1), omega (arith, c.requires.sized.0.small), omega arith)
@@ -31,9 +25,6 @@ loop-d-preserved c = (
       (wrote_as _ _ _ _ _ _
       (class_is _ _ _ _ _ _ _ _ _ (c.classes_of-set.ensures []) c.place-own.ensures c.meets.ensures c.fact.ensures) c.put_if-at.ensures),
 )
-
-pub shape_of-out : goal.shape_of-out
-shape_of-out c = c.loop-d.invariant.1.size
 
 pub returns : goal.returns
 returns c = turn_all _ _ _ _ _ _ _ (le_antisymm c.loop-d.invariant.0 c.loop-d-test.false) c.loop-d.invariant.1

@@ -13,8 +13,5 @@ class_row-at-requires c = record { sized = (c.requires.sized.0, omega (arith, c.
 pub loop-class-preserved : goal.loop-class-preserved
 loop-class-preserved c = (omega arith, turn_more _ _ _ _ _ _ _ _ c.loop-class.invariant.1 c.class_row-at.ensures)
 
-pub shape_of-out : goal.shape_of-out
-shape_of-out c = c.loop-class.invariant.1.size
-
 pub returns : goal.returns
 returns c = turn_all _ _ _ _ _ _ _ (le_antisymm c.loop-class.invariant.0 c.loop-class-test.false) c.loop-class.invariant.1

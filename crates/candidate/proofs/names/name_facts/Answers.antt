@@ -12,15 +12,6 @@ use Rattle.candidate.proofs.names.name_facts.Goals as goal
 pub loop-a-init : goal.loop-a-init
 loop-a-init c = (omega arith, turn_none _ _ _)
 
-pub overflow_add-first : goal.overflow_add-first
-overflow_add-first c = omega (arith, c.requires.inside.1, c.requires.inside.2)
-
-pub object_of-d-requires : goal.object_of-d-requires
-object_of-d-requires c = (c.requires.inside.0, omega (arith, c.requires.inside.2))
-
-pub overflow_add-a : goal.overflow_add-a
-overflow_add-a c = omega (arith, c.requires.inside.3)
-
 pub fact-requires : goal.fact-requires
 fact-requires c =
     let p = c.requires.inside in
@@ -37,9 +28,6 @@ loop-a-preserved c = (
   turn_more _ _ _ _ _ _ _ _ c.loop-a.invariant.1
       (wrote_as _ _ _ _ _ _ (ap (λ (f : ℕ). f ∷ []) (c.fact.ensures ∙ ap (name_fact _) c.object_of-d.ensures)) c.put_if-at.ensures),
 )
-
-pub shape_of-out : goal.shape_of-out
-shape_of-out c = c.loop-a.invariant.1.size
 
 pub returns : goal.returns
 returns c = turn_all _ _ _ _ _ _ _ (le_antisymm c.loop-a.invariant.0 c.loop-a-test.false) c.loop-a.invariant.1

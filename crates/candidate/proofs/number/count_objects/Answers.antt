@@ -4,9 +4,6 @@ use Rattle.candidate.proofs.SearchLaws.{objects_on, objects_off}
 use Rattle.forest.proofs.ObjectLaws.{size_laid}
 use Rattle.candidate.proofs.number.count_objects.Goals as goal
 
-pub lacking-requires : goal.lacking-requires
-lacking-requires c = c.requires
-
 pub overflow_add-result : goal.overflow_add-result
 overflow_add-result c = omega (arith, c.requires.1.laid.fits)
 

@@ -9,9 +9,6 @@ use Rattle.candidate.proofs.pairs.link_facts.Goals as goal
 pub loop-e-init : goal.loop-e-init
 loop-e-init c = (omega arith, turn_none _ _ _)
 
-pub overflow_add-attribute : goal.overflow_add-attribute
-overflow_add-attribute c = omega (arith, c.requires.g_le_max_objects.1)
-
 pub fact-requires : goal.fact-requires
 fact-requires c = let p = c.requires.g_le_max_objects in (omega (arith, p.1), p.2, omega (arith, p.0))
 
@@ -26,9 +23,6 @@ loop-e-preserved c = (
   turn_more _ _ _ _ _ _ _ _ c.loop-e.invariant.1
       (wrote_as _ _ _ _ _ _ (ap₂ fact_if (c.linked-link.ensures _ _) c.fact.ensures) c.put_if-at.ensures),
 )
-
-pub shape_of-out : goal.shape_of-out
-shape_of-out c = c.loop-e.invariant.1.size
 
 pub returns : goal.returns
 returns c = turn_all _ _ _ _ _ _ _ (le_antisymm c.loop-e.invariant.0 c.loop-e-test.false) c.loop-e.invariant.1

@@ -1,13 +1,13 @@
--- Whether an edge passed is the pair.
-use native.Mathlib.Omega.{arith}
-use Rattle.candidate.proofs.PairLaws.{linked_none, linked_more, linked_all}
+-- Some edge of the query is the pair.
+use mathlib.Core.Path.{◌∙◌}
+use borrow.Author.Rules.{rules}
+use Rattle.std.proofs.Common.{tests}
+use Rattle.std.proofs.lemmas.Iterator.{YieldsList-from_slice}
+use Rattle.std.proofs.lemmas.Iterator.Search.{any_from_yields_List}
+use Rattle.candidate.proofs.PairLaws.{is_link, links_words}
 use Rattle.candidate.proofs.pairs.linked.Goals as goal
 
-pub loop-i-init : goal.loop-i-init
-loop-i-init c = (omega arith, linked_none c.args.edges.now c.args.attribute c.args.d c.args.e)
-
-pub loop-i-preserved : goal.loop-i-preserved
-loop-i-preserved c = (omega arith, rw c.wide-w.ensures (linked_more _ _ _ _ _ _ c.loop-i-test.true c.loop-i.invariant.1))
-
 pub returns : goal.returns
-returns c = linked_all _ _ _ _ _ _ c.loop-i-test.false c.loop-i.invariant.1
+returns c = λ g objects.
+    any_from_yields_List (is_link c.args.edges.now c.args.attribute c.args.d c.args.e) _ _ _ c.any.ensures.ran (YieldsList-from_slice c.args.edges.now cc) (λ x b q k. search (rules, tests))
+    ∙ links_words c.args.edges.now c.args.attribute c.args.d c.args.e g objects

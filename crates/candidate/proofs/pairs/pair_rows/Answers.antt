@@ -13,8 +13,5 @@ pair_row-at-requires c = record { sized = (c.requires.sized.0, omega (arith, c.r
 pub loop-attribute-preserved : goal.loop-attribute-preserved
 loop-attribute-preserved c = (omega arith, turn_more _ _ _ _ _ _ _ _ c.loop-attribute.invariant.1 c.pair_row-at.ensures)
 
-pub shape_of-out : goal.shape_of-out
-shape_of-out c = c.loop-attribute.invariant.1.size
-
 pub returns : goal.returns
 returns c = turn_all _ _ _ _ _ _ _ (le_antisymm c.loop-attribute.invariant.0 c.loop-attribute-test.false) c.loop-attribute.invariant.1

@@ -1,11 +1,8 @@
 -- The two arms.
 use borrow.Author.Rules.{rules}
-use Rattle.candidate.proofs.WriteLaws.{if_room, if_on, if_off}
+use Rattle.candidate.proofs.WriteLaws.{if_room, if_on}
 use Rattle.candidate.specs.Writing.{Room}
 use Rattle.candidate.proofs.put.put_if.Goals as goal
-
-pub returns-then-not-test : goal.returns-then-not-test
-returns-then-not-test c = if_off _ _ _ _ c.if-not-test.true
 
 pub offset_bounds-out-count : goal.offset_bounds-out-count
 unfolding Room

@@ -1,16 +1,13 @@
--- No edge passed is asked for.
-use native.Mathlib.Omega.{arith}
-use Rattle.forest.proofs.ReadLaws.{unasked_none, unasked_more, unasked_all, asked_here}
+-- Some edge of the query is such a pair.
+use mathlib.Core.Path.{◌∙◌}
+use borrow.Author.Rules.{rules}
+use Rattle.std.proofs.Common.{tests}
+use Rattle.std.proofs.lemmas.Iterator.{YieldsList-from_slice}
+use Rattle.std.proofs.lemmas.Iterator.Search.{any_from_yields_List}
+use Rattle.forest.proofs.ReadLaws.{from, asks_words}
 use Rattle.forest.proofs.objects.asks.Goals as goal
 
-pub loop-i-init : goal.loop-i-init
-loop-i-init c = (omega arith, unasked_none c.args.edges.now c.args.attribute c.args.d)
-
-pub returns-then-w-attribute : goal.returns-then-w-attribute
-returns-then-w-attribute c = asked_here c.args.edges.now c.args.attribute c.args.d _ c.loop-i-test.true (rw c.wide-w.ensures at c.if-w-attribute.true)
-
-pub loop-i-preserved : goal.loop-i-preserved
-loop-i-preserved c = (omega arith, unasked_more c.args.edges.now c.args.attribute c.args.d _ c.loop-i-test.true c.loop-i.invariant.1 (rw c.wide-w.ensures at c.if-w-attribute.false))
-
 pub returns : goal.returns
-returns c = unasked_all c.args.edges.now c.args.attribute c.args.d _ c.loop-i-test.false c.loop-i.invariant.1
+returns c = λ g objects.
+    any_from_yields_List (from c.args.edges.now c.args.attribute c.args.d) _ _ _ c.any.ensures.ran (YieldsList-from_slice c.args.edges.now cc) (λ x b q k. search (rules, tests))
+    ∙ asks_words c.args.edges.now c.args.attribute c.args.d g objects

@@ -1,12 +1,8 @@
 -- An object has the classes of its word, and the closing object all.
-use native.Mathlib.Omega.{arith}
 use mathlib.Core.Path.{sym, ◌∙◌}
 use Rattle.records.specs.SchemaRecord.{schema_of}
 use Rattle.forest.proofs.ObjectLaws.{classes_laid, classes_closing}
 use Rattle.forest.proofs.objects.classes_of.Goals as goal
-
-pub classes_at-requires : goal.classes_at-requires
-classes_at-requires c = (c.requires.1.laid.room, omega (arith, c.requires.1.laid.fits), c.requires.1.sets _ c.if-d-n.true)
 
 pub returns-then-d-n : goal.returns-then-d-n
 returns-then-d-n c = λ edges. c.classes_at.ensures ∙ sym (classes_laid (schema_of c.args.schema.now) _ _ _ c.requires.1.laid edges _ c.if-d-n.true)

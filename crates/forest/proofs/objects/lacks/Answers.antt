@@ -1,11 +1,7 @@
 -- The tests of the definition, the dear one last.
-use native.Mathlib.Omega.{arith}
 use mathlib.Core.Path.{sym, ◌∙◌}
 use Rattle.forest.proofs.ReadLaws.{lacks_needless, lacks_asked, lacks_value}
 use Rattle.forest.proofs.objects.lacks.Goals as goal
-
-pub classes_at-requires : goal.classes_at-requires
-classes_at-requires c = (c.requires.0.laid.room, omega (arith, c.requires.0.laid.fits), c.requires.0.sets _ c.requires.2)
 
 pub returns-then-not-meets : goal.returns-then-not-meets
 returns-then-not-meets c = λ S tied. lacks_needless _ _ _ c.requires.0.laid c.args.edges.now _ _ _ c.requires.2 S tied (rw (← c.classes_at.ensures, ← c.meets.ensures) c.if-not-meets.true)
@@ -13,8 +9,5 @@ returns-then-not-meets c = λ S tied. lacks_needless _ _ _ c.requires.0.laid c.a
 pub returns-then-asks : goal.returns-then-asks
 returns-then-asks c = λ S tied. lacks_asked _ _ _ c.requires.0.laid c.args.edges.now _ _ _ c.requires.2 S tied (sym (c.asks.ensures _ _) ∙ c.if-asks.true)
 
-pub kid-requires : goal.kid-requires
-kid-requires c = (c.requires.0.laid, c.requires.1, omega (arith, c.requires.0.laid.fits, c.requires.2))
-
 pub returns : goal.returns
-returns c = λ S tied. lacks_value _ _ _ c.requires.0.laid c.args.edges.now _ _ _ c.requires.2 S tied _ (rw (← c.classes_at.ensures, ← c.meets.ensures) c.if-not-meets.false) (sym (c.asks.ensures _ _) ∙ c.if-asks.false) (c.kid.ensures c.args.edges.now)
+returns c = λ S tied. lacks_value _ _ _ c.requires.0.laid c.args.edges.now _ _ _ c.requires.2 S tied _ _ c.is_none.ensures (rw (← c.classes_at.ensures, ← c.meets.ensures) c.if-not-meets.false) (sym (c.asks.ensures _ _) ∙ c.if-asks.false) (c.kid.ensures c.args.edges.now)

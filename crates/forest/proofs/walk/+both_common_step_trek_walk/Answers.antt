@@ -2,11 +2,16 @@
 -- measure is one more than that of the operand that ends at its token. Each need cites what the token's operands may do, or
 -- what they leave (WalkLaws).
 use native.Mathlib.Omega.{arith}
-use mathlib.Core.Path.{sym, ◌∙◌}
+use Prim.Native.Nat.{◌-◌}
+use mathlib.Core.Path.{◌≡◌, sym, ◌∙◌}
+use Rattle.records.specs.Concept.{direction_of}
+use Rattle.records.specs.ConceptRecord.{token_at}
+use Rattle.records.specs.Helpers.Reading.{step_token}
 use Rattle.records.proofs.PileLaws.{start_le}
-use Rattle.records.proofs.ReadingLaws.{concept_not_path, path_not_concept}
-use Rattle.forest.proofs.WalkLaws.{both_first, both_last, both_walked, reached_path, reached_walked, common_first, common_last, common_walked, step_path, step_make, step_next, step_walk, step_trekked, walk_after, walk_short, walk_from, walk_to, walk_leaf, trek_after, trek_short, trek_from, trek_to, trek_leaf}
+use Rattle.records.proofs.ReadingLaws.{concept_not_path}
+use Rattle.forest.proofs.WalkLaws.{both_first, both_last, both_walked, reached_path, reached_walked, common_first, common_last, common_walked, step_path, step_make, step_next, step_walk, step_trekked, walk_after, walk_short, walk_from, walk_to, walk_leaf, trek_after, trek_short, trek_from, trek_to, trek_leaf, no_step}
 use Rattle.forest.proofs.walk.+both_common_step_trek_walk.Goals as goal
+use Rattle.forest.proofs.walk.+both_common_step_trek_walk.Goals.{trek-in-Forward, trek-in-Backward}
 
 pub both-start_of-requires : goal.both-start_of-requires
 both-start_of-requires t c = omega (arith, walk_short c.requires.0)
@@ -57,22 +62,19 @@ pub trek-token_at-requires : goal.trek-token_at-requires
 trek-token_at-requires t c = omega (arith, trek_short c.requires)
 
 pub trek-step-requires : goal.trek-step-requires
-trek-step-requires t c = (omega (arith, c.decreases, trek_after c.requires), (trek_from c.requires, sym c.token_at.ensures ∙ c.in-Forward.is))
+trek-step-requires t c =
+    let q : token_at c.args.view.now (c.args.end - 1) ≡ step_token (direction_of c.match-token_at.attribute.1) c.match-token_at.attribute.0 =
+    elim c.match-token_at.branch [
+      | trek-in-Forward w ↦ rw w.attribute-is (sym c.token_at.ensures ∙ w.in-Forward.is)
+      | trek-in-Backward w ↦ rw w.attribute-is (sym c.token_at.ensures ∙ w.in-Backward.is)
+    ] in
+    (omega (arith, c.decreases, trek_after c.requires), (trek_from c.requires, q))
 
-pub trek-step-requires-in-Backward : goal.trek-step-requires-in-Backward
-trek-step-requires-in-Backward t c = (omega (arith, c.decreases, trek_after c.requires), (trek_from c.requires, sym c.token_at.ensures ∙ c.in-Backward.is))
+pub trek-returns-in_default : goal.trek-returns-in_default
+trek-returns-in_default t c = trek_leaf c.requires (no_step c.requires c.token_at.ensures c.in_default.not-Forward c.in_default.not-Backward)
 
-pub trek-returns-in-Empty : goal.trek-returns-in-Empty
-trek-returns-in-Empty t c = trek_leaf c.requires (sym c.token_at.ensures ∙ c.in-Empty.is)
-
-pub trek-returns-in-Forward : goal.trek-returns-in-Forward
-trek-returns-in-Forward t c = trek_to c.requires c.step.ensures
-
-pub trek-returns-in-Backward : goal.trek-returns-in-Backward
-trek-returns-in-Backward t c = trek_to c.requires c.step-in-Backward.ensures
-
-pub trek-returns-in-Class : goal.trek-returns-in-Class
-trek-returns-in-Class t c = absurd (path_not_concept c.args.view.now _ c.requires.item (rw (← c.token_at.ensures) c.in-Class.is))
+pub trek-returns : goal.trek-returns
+trek-returns t c = trek_to c.requires c.step.ensures
 
 pub walk-overflow_sub-at : goal.walk-overflow_sub-at
 walk-overflow_sub-at t c = omega (arith, walk_after c.requires)
@@ -83,8 +85,8 @@ walk-token_at-requires t c = omega (arith, walk_short c.requires)
 pub walk-both-requires : goal.walk-both-requires
 walk-both-requires t c = (omega (arith, c.decreases, walk_after c.requires), (walk_from c.requires, (sym c.token_at.ensures ∙ c.in-Both.is)))
 
-pub walk-trek-there-requires : goal.walk-trek-there-requires
-walk-trek-there-requires t c = (omega (arith, c.decreases, walk_after c.requires), reached_path (walk_from c.requires) (sym c.token_at.ensures ∙ c.in-Reached.is))
+pub walk-trek-requires : goal.walk-trek-requires
+walk-trek-requires t c = (omega (arith, c.decreases, walk_after c.requires), reached_path (walk_from c.requires) (sym c.token_at.ensures ∙ c.in-Reached.is))
 
 pub walk-common-requires : goal.walk-common-requires
 walk-common-requires t c = (omega (arith, c.decreases, walk_after c.requires), (walk_from c.requires, (sym c.token_at.ensures ∙ c.in-Common.is)))
@@ -96,7 +98,7 @@ pub walk-returns-in-Both : goal.walk-returns-in-Both
 walk-returns-in-Both t c = walk_to c.requires c.both.ensures
 
 pub walk-returns-in-Reached : goal.walk-returns-in-Reached
-walk-returns-in-Reached t c = walk_to c.requires (reached_walked (walk_from c.requires) (sym c.token_at.ensures ∙ c.in-Reached.is) c.trek-there.ensures)
+walk-returns-in-Reached t c = walk_to c.requires (reached_walked (walk_from c.requires) (sym c.token_at.ensures ∙ c.in-Reached.is) c.trek.ensures)
 
 pub walk-returns-in-Common : goal.walk-returns-in-Common
 walk-returns-in-Common t c = walk_to c.requires c.common.ensures
