@@ -1,7 +1,7 @@
 -- From the closed primary part of a query to the candidate: the ground is laid, the view is walked, the objects are counted,
 -- and each is the model's.
 use Prim.Native.Nat.{ℕ, suc, ◌-◌, ◌≤◌}
-use mathlib.Core.Bool.{Bool, false, So, false≢true}
+use mathlib.Core.Bool.{Bool, false}
 use mathlib.Core.List.{List, [], ◌++◌, map}
 use mathlib.Core.Path.{◌≡◌, refl, sym, ap, ap₂, subst, ◌∙◌}
 use native.Mathlib.Omega.{arith}
@@ -43,8 +43,7 @@ use Rattle.candidate.specs.declared.number.Sizes.{Sizes}
 use Rattle.candidate.specs.declared.marks.Marks.{Marks}
 use Rattle.candidate.specs.declared.marks.Shape.{Shape}
 use Rattle.candidate.proofs.AgreeLaws.{objects_are, objects_few, facts_are, marks_are}
-use Rattle.construct.specs.declared.Made.{Made}
-use Rattle.construct.specs.Arrays.{constants_from, listing, Arrays, Marked, Built}
+use Rattle.construct.specs.Arrays.{constants_from, listing, Arrays, Marked, BuiltArrays}
 use Rattle.construct.specs.Closed.{Pair, Closed, MarksOf, Laid}
 
 pub pair_of : {s q v : List ℕ} → Triple s q v → Pair s q
@@ -184,27 +183,14 @@ module _ (s q v : List ℕ) (ok : Triple s q v) (r l es words : List ℕ) (g : �
                 ∙ facts_are (task_of s q v) s es after g n schema_is agrees_after made r l (prime_is s q v ok r l laid.prime);
           }
 
--- where there is a clash there is no candidate
-pub built_clash : (s q v r words : List ℕ) (m : Made) → So (clash (task_of s q v)) → So m.clashes → m.edges.count ≤ max_tokens
-    → length m.edges.words ≡ max_tokens → Marked (task_of s q v) r m.shape.marks → Built s q v r words m
-built_clash s q v r words m c b count room marks =
-    record {
-      clash_is = b ∙ sym c;
-      arrays = λ a. absurd (false≢true (sym a ∙ c));
-      count = count;
-      room = room;
-      marks = marks;
-    }
-
 -- the edges in an array whose first words they are
 pub built_open : (s q v r words : List ℕ) (z : Sizes) (m : Marks) (es old : List ℕ) (k : ℕ) → clash (task_of s q v) ≡ false
     → Arrays (task_of s q v) s r es words z → Marked (task_of s q v) r m → k ≡ length es → k ≤ max_tokens → length old ≡ max_tokens
-    → Built s q v r words
-    (record { clashes = false; edges = record { count = k; words = es ++ drop k old }; shape = record { sizes = z; marks = m } })
+    → BuiltArrays s q v r words (record { edges = record { count = k; words = es ++ drop k old }; shape = record { sizes = z; marks = m } })
 built_open s q v r words z m es old k apart a marks is count room =
     record {
-      clash_is = sym apart;
-      arrays = λ _. subst (λ (l : List ℕ). Arrays (task_of s q v) s r l words z) (sym (take_at es (drop k old) k (sym is))) a;
+      apart = apart;
+      arrays = subst (λ (l : List ℕ). Arrays (task_of s q v) s r l words z) (sym (take_at es (drop k old) k (sym is))) a;
       count = count;
       room = omega (arith, length-append es (drop k old), length-drop k old, is, count, room);
       marks = marks;

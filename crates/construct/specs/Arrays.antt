@@ -1,6 +1,6 @@
 -- The candidate of an accepted triple in arrays: a representative for each node, the query's edges between objects, the objects,
 -- and the marks.
-use Rattle.std.specs.Prelude.{ℕ, ◌-◌, ◌≤◌, ◌<◌, List, false, ◌≡◌, length}
+use Rattle.std.specs.Prelude.{ℕ, ◌-◌, ◌≤◌, ◌<◌, List, false, Option, Some, None, IsTrue, ◌≡◌, length}
 use Rattle.records.specs.Layout.{query_steps, max_tokens, max_marks}
 use Rattle.records.specs.SchemaRecord.{signature_of}
 use Rattle.chase.specs.Task.{Task, task_of}
@@ -48,10 +48,15 @@ pub record Marked (t : Task) (reps : List ℕ) (m : Marks) : Type 0 where
   pub nodes : NodesIn (length reps) m.nodes
   pub objects : (k : ℕ) → k < max_marks → object_in reps (node_in m.nodes k) ≡ (ground t).marks k
 
--- a clash, or the arrays
-pub record Built (schema query view reps words : List ℕ) (m : Made) : Type 0 where
-  pub clash_is : m.clashes ≡ clash (task_of schema query view)
-  pub arrays : clash (task_of schema query view) ≡ false → Arrays (task_of schema query view) schema reps (listed m.edges) words m.shape.sizes
+-- the arrays, where no two constants clash
+pub record BuiltArrays (schema query view reps words : List ℕ) (m : Made) : Type 0 where
+  pub apart : clash (task_of schema query view) ≡ false
+  pub arrays : Arrays (task_of schema query view) schema reps (listed m.edges) words m.shape.sizes
   pub marks : Marked (task_of schema query view) reps m.shape.marks
   pub count : m.edges.count ≤ max_tokens
   pub room : length m.edges.words ≡ max_tokens
+
+-- a clash, or the arrays
+abbrev pub Built : List ℕ → List ℕ → List ℕ → List ℕ → List ℕ → Option Made → Type 0
+Built schema query view reps words None = IsTrue (clash (task_of schema query view))
+Built schema query view reps words (Some m) = BuiltArrays schema query view reps words m

@@ -6,17 +6,13 @@ ghost use Rattle.std.specs.Prelude.{◌≡◌, ◌≤◌, length};
 ghost use Rattle.records.specs.Layout.{max_tokens, max_objects};
 ghost use Rattle.records.specs.Helpers.Triple.{Triple};
 ghost use Rattle.chase.specs.Task.{task_of, nodes as nodes_of};
-ghost use Rattle.chase.specs.Primary.{primary};
-ghost use Rattle.primary.specs.Formed.{Becomes};
 ghost use Rattle.primary.specs.Asked.{query_task};
-ghost use Rattle.asked.specs.declared.words.Kind.TheVariants.{Members, Edges};
 ghost use Rattle.asked.specs.Listed.{listed as words_in};
-ghost use Rattle.asked.specs.Answer.{Asked, IsTied};
 ghost use Rattle.construct.specs.Arrays.{Arrays, Built};
 ghost use Rattle.construct.specs.Closed.{Pair, Nodes, Closed, MarksOf};
 
 use asked::entry::asked;
-use asked::ties::{Tied, of_equations};
+use asked::ties::of_equations;
 use asked::words::{Kind, Words};
 use candidate::marks::{Marks, Shape};
 use candidate::number::{Sizes, count_objects};
@@ -31,11 +27,9 @@ use reading::used;
 use records::layout::word;
 use records::schema::signature_of;
 
-// Whether two constants are one object, so that there is no candidate; otherwise the query's edges between objects, how many
-// objects there are, and the marks.
+// The query's edges between objects, how many objects there are, and the marks.
 #[derive(Clone, Copy)]
 pub struct Made {
-    pub clashes: bool,
     pub edges: Words,
     pub shape: Shape,
 }
@@ -55,32 +49,6 @@ pub fn nodes(schema: &[u16], query: &[u16]) -> usize
     word(query, 1) + 1 + s.constants
 }
 
-// The primary part of the query, from its facts of the three kinds, the equations as ties.
-fn close_by(
-    schema: &[u16],
-    query: &[u16],
-    members: Words,
-    tied: Tied,
-    edges: Words,
-    reps: &mut [u32],
-    sets: &mut [u32],
-)
-    requires pair { Pair schema.now query.now × Nodes schema.now query.now reps.old sets.old }
-    requires asked { Asked schema.now query.now Members members }
-    requires tied { IsTied schema.now query.now tied }
-    requires asked_2 { Asked schema.now query.now Edges edges }
-    ensures { Becomes (nodes_of (query_task schema.now query.now)) reps.new sets.new (primary (query_task schema.now query.now)) }
-{
-    let ties = tied.ties;
-    let ms = members.words;
-    let qs = ties.words;
-    let es = edges.words;
-    let m = members.count;
-    let q = ties.count;
-    let e = edges.count;
-    close(schema, query, &ms[..m], &qs[..q], &es[..e], reps, sets);
-}
-
 // The primary part of the query. Returns its edges and marks.
 fn closed(schema: &[u16], query: &[u16], reps: &mut [u32], sets: &mut [u32]) -> Read
     requires { Pair schema.now query.now × Nodes schema.now query.now reps.old sets.old }
@@ -92,11 +60,18 @@ fn closed(schema: &[u16], query: &[u16], reps: &mut [u32], sets: &mut [u32]) -> 
     let equations = asked(schema, query, Kind::Equations);
     let edges = asked(schema, query, Kind::Edges);
     let tied = of_equations(schema, query, equations);
-    close_by(schema, query, members, tied, edges, reps, sets);
-    let nodes = tied.nodes;
+    close(
+        schema,
+        query,
+        members.as_slice(),
+        tied.ties.as_slice(),
+        edges.as_slice(),
+        reps,
+        sets,
+    );
     let marks = Marks {
         used: used(query),
-        nodes,
+        nodes: tied.nodes,
     };
     Read { edges, marks }
 }
@@ -126,7 +101,7 @@ fn from_primary(
     }
 }
 
-// The same, from two lists with an entry for each node.
+// The same, from two lists with an entry for each node. Where two constants are one object there is no candidate.
 fn from_nodes(
     schema: &[u16],
     query: &[u16],
@@ -134,31 +109,18 @@ fn from_nodes(
     reps: &mut [u32],
     sets: &mut [u32],
     objects: &mut [u64; OBJECTS],
-) -> Made
+) -> Option<Made>
     requires { Triple schema.now query.now view.now × Nodes schema.now query.now reps.old sets.old × (length objects.old ≡ max_objects) }
     ensures { Built schema.now query.now view.now reps.new objects.new result }
 {
     let read = closed(schema, query, reps, sets);
-    let edges = read.edges;
-    let marks = read.marks;
     let s = signature_of(schema);
     let first = reps.len() - s.constants;
     if clashes(s, reps, first) {
-        return Made {
-            clashes: true,
-            edges,
-            shape: Shape {
-                sizes: Sizes {
-                    ground: 0,
-                    made: 0,
-                    total: 0,
-                },
-                marks,
-            },
-        };
+        return None;
     }
-    let mut words = edges.words;
-    let count = edges.count;
+    // No method lends the words to be changed: the check follows no `&mut` into a part of a struct's array.
+    let Words { count, mut words } = read.edges;
     let sizes = from_primary(
         schema,
         query,
@@ -168,21 +130,23 @@ fn from_nodes(
         &mut words[..count],
         objects,
     );
-    Made {
-        clashes: false,
+    Some(Made {
         edges: Words { count, words },
-        shape: Shape { sizes, marks },
-    }
+        shape: Shape {
+            sizes,
+            marks: read.marks,
+        },
+    })
 }
 
-// The candidate in lent arrays: a representative for each node, and the objects.
+// The candidate in lent arrays: a representative for each node, and the objects. There is none where two constants clash.
 pub fn candidate(
     schema: &[u16],
     query: &[u16],
     view: &[u16],
     reps: &mut [u32],
     objects: &mut [u64; OBJECTS],
-) -> Made
+) -> Option<Made>
     requires { Triple schema.now query.now view.now × (length reps.old ≡ nodes_of (query_task schema.now query.now)) × (length objects.old ≡ max_objects) }
     ensures { Built schema.now query.now view.now reps.new objects.new result }
 {

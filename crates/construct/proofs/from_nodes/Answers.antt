@@ -1,10 +1,10 @@
 -- A clash is found where the constants' nodes stand; otherwise the arrays are the candidate's (ArraysLaws).
-use mathlib.Core.Path.{ap, refl, sym, ◌∙◌}
+use mathlib.Core.Path.{ap, sym, ◌∙◌}
 use native.Mathlib.Omega.{arith}
 use lib.Seq.{length-take-le}
 use Rattle.records.specs.declared.schema.Signature.{Signature}
 use Rattle.records.proofs.AcceptedLaws.{passes_1, signature_few}
-use Rattle.construct.proofs.ArraysLaws.{built_clash, built_open, clashes_are, constants_inside, marked_by, pair_of}
+use Rattle.construct.proofs.ArraysLaws.{built_open, clashes_are, constants_inside, marked_by, pair_of}
 use Rattle.construct.proofs.from_nodes.Goals as goal
 
 pub closed-read-requires : goal.closed-read-requires
@@ -25,11 +25,8 @@ clashes-requires c =
 
 pub returns-then-clashes : goal.returns-then-clashes
 returns-then-clashes c =
-    let room = c.closed-read.ensures.room in
-    built_clash _ _ _ _ _ _
-    (sym (clashes_are _ _ _ c.requires.0 _ _ c.closed-read.ensures.closed.prime _ _ (rw c.signature_of-s.ensures) c.signature_of-s.ensures _ c.clashes.ensures)
-    ∙ c.if-clashes.true) refl room.0 room.1
-    (marked_by _ _ _ c.requires.0 _ _ c.closed-read.ensures.closed.prime _ c.closed-read.ensures.marks)
+    sym (clashes_are _ _ _ c.requires.0 _ _ c.closed-read.ensures.closed.prime _ _ (rw c.signature_of-s.ensures) c.signature_of-s.ensures _ c.clashes.ensures)
+    ∙ c.if-clashes.true
 
 pub slice_bounds-words-end : goal.slice_bounds-words-end
 slice_bounds-words-end c = let room = c.closed-read.ensures.room in omega (arith, room.0, room.1)
