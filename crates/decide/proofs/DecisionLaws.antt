@@ -1,26 +1,102 @@
--- What is answered to any words, by the first refusal that applies, or by the verdict on accepted records.
-use Prim.Native.Nat.{ℕ}
-use mathlib.Core.List.{List, ◌∷◌, ◌++◌}
-use mathlib.Core.Bool.{false≢true}
+-- What is answered to any words: by the first refusal that applies, or by what accepted records are told.
+use Prim.Native.Nat.{ℕ, ◌≤◌, ◌<◌}
+use mathlib.Core.List.{List, [], ◌∷◌}
+use mathlib.Core.Bool.{Bool}
 use mathlib.Core.Path.{◌≡◌, refl, sym, ap, ◌∙◌}
-use borrow.Author.Tests.{eq-eqb}
-use Rattle.records.specs.Outcome.{first_refusal}
-use Rattle.records.proofs.OutcomeLaws.{Passed, Turned, first_at, first_none}
-use Rattle.decide.specs.declared.DecideAnswer.{DecideAnswer}
-use Rattle.decide.specs.declared.DecideAnswer.TheVariants as answers
+use borrow.Author.Tests.{lt-ltb}
+use lib.ListN.{length}
+use Rattle.std.specs.Prelude.{Option, Some, None, Result, Ok, Err}
+use Rattle.std.proofs.lemmas.Option.{none-some}
+use Rattle.records.specs.declared.schema.Signature.{Signature}
+use Rattle.records.specs.declared.named.Named.{Named}
+use Rattle.records.specs.declared.refusal.Refusal.{Refusal}
+use Rattle.records.specs.declared.refusal.Refusal.TheVariants.{LentWords}
+use Rattle.records.specs.Layout.{query_steps, view_steps, query_marks, no_marks, max_state_words}
+use Rattle.records.specs.Marks.{allowing}
+use Rattle.records.specs.SchemaRecord.{signature_of}
+use Rattle.records.specs.SchemaRefusal.{schema_answer}
+use Rattle.records.specs.ConceptRefusal.{concept_answer}
+use Rattle.records.specs.Refusal.{refusal_in}
+use Rattle.records.specs.Outcome.{query_signature, refusal_11, lent_refusal, first_refusal, refused_or, outcome}
+use Rattle.records.specs.Helpers.Triple.{Triple}
+use Rattle.records.proofs.OutcomeLaws.{Passed, first_passed, first_among, first_stays, first_none, lent_passed, schema_signature, passed_schema, passed_concept}
+use Rattle.decide.specs.declared.Witness.{Witness}
 use Rattle.decide.specs.Decision.{decide_refusals, Verdict, Decision}
+use Rattle.decide.specs.Holding.{holds_refusals, Tells, Holding, checked}
 
-module _ (schema query view lent : List ℕ) where
-  -- a number that is not 0, where those before it are
-  pub refused_by : (passed rest : List ℕ) {n m : ℕ} → Passed passed → Turned n m → decide_refusals schema query view lent ≡ passed ++ m ∷ rest
-      → Decision schema query view lent (answers.Refused n) lent
-  refused_by passed rest {n} {m} p t e =
-      let first : first_refusal (decide_refusals schema query view lent) ≡ m = ap first_refusal e ∙ first_at passed rest m p t.1 in
-      record {
-        refused = λ _. (ap answers.Refused (t.0 ∙ sym first), refl);
-        decided = λ z. absurd (false≢true (sym t.1 ∙ eq-eqb m 0 (sym first ∙ z)));
-      }
+-- what an accepted schema's signature allows in a query and in a view
+pub declared_by : (schema : List ℕ) {s : Signature} → schema_answer schema ≡ Ok s
+    → (s ≡ signature_of schema) × (allowing query_marks s ≡ query_signature schema) × (allowing no_marks s ≡ signature_of schema)
+unfolding signature_of
+declared_by schema e = let same = (schema_signature schema e).0 in (same, rw same refl, rw same refl)
 
-  pub decided_by : Passed (decide_refusals schema query view lent) → (answer : DecideAnswer) (words : List ℕ)
-      → Verdict schema query view lent answer words → Decision schema query view lent answer words
-  decided_by p answer words v = record { refused = λ n. absurd (n (first_none (decide_refusals schema query view lent) p)); decided = λ _. v }
+module _ (schema query view : List ℕ) where
+  abbrev refusals : List (Option Refusal)
+  refusals = holds_refusals schema query view
+
+  -- what the check answers is the first refusal
+  refusal_checked : first_refusal refusals ≡ refusal_in (checked schema query view)
+  unfolding outcome
+  refusal_checked = pick (first_refusal refusals)
+    where
+      pick : (o : Option Refusal) → o ≡ refusal_in (refused_or {A = Result (Unit {0}) Refusal} Err (Ok tt) o)
+      pick None = refl
+      pick (Some r) = refl
+
+  -- the check of the query refuses, or that of the view
+  module _ {s : Signature} (a : schema_answer schema ≡ Ok s) where
+    pub query_refused : {r : Refusal} → Err r ≡ concept_answer query_steps (allowing query_marks s) query → Err r ≡ checked schema query view
+    unfolding outcome first_refusal
+    query_refused e = rw (a, ← (declared_by schema a).1, ← e) refl
+
+    pub view_refused : {x : Named} → Ok x ≡ concept_answer query_steps (allowing query_marks s) query → {r : Refusal}
+        → Err r ≡ concept_answer view_steps (allowing no_marks s) view → Err r ≡ checked schema query view
+    unfolding outcome first_refusal
+    view_refused q e = rw (a, ← (declared_by schema a).1, ← q, ← (declared_by schema a).2, ← e) refl
+
+  module _ {r : Refusal} (e : checked schema query view ≡ Err r) where
+    first_is : first_refusal refusals ≡ Some r
+    first_is = refusal_checked ∙ ap refusal_in e
+
+    pub holds_refused : Holding schema query view (Err r)
+    holds_refused = let first = first_is in record { refused = λ q f. cc; decided = λ n. absurd (none-some r (sym n ∙ first_is)) }
+
+    pub decide_refused : (lent : List ℕ) → Decision schema query view lent (Err r) lent
+    decide_refused lent =
+        let first = first_stays refusals (lent_refusal max_state_words lent ∷ []) first_is in
+        record { refused = λ q f. (cc, refl); decided = λ n. absurd (none-some r (sym n ∙ first)) }
+
+  module _ (e : checked schema query view ≡ Ok tt) where
+    none_is : first_refusal refusals ≡ None
+    none_is = refusal_checked ∙ ap refusal_in e
+
+    passed : Passed refusals
+    passed = first_passed refusals none_is
+
+    pub accepted : Triple schema query view
+    accepted =
+        record {
+          schema_accepted = passed_schema schema passed.0;
+          query_accepted = passed_concept _ _ query passed.1.0;
+          view_accepted = passed_concept _ _ view passed.1.1.0;
+        }
+
+    pub holds_decided : {held : Bool} → Tells schema query view held → Holding schema query view (Ok held)
+    holds_decided {held} t = record { refused = λ r f. absurd (none-some r (sym none_is ∙ f)); decided = λ n. (held, refl, t) }
+
+    module _ (lent : List ℕ) where
+      first_lent : first_refusal (decide_refusals schema query view lent) ≡ first_refusal (lent_refusal max_state_words lent ∷ [])
+      first_lent = first_among refusals (lent_refusal max_state_words lent ∷ []) passed
+
+      pub decide_short : length lent < max_state_words → Decision schema query view lent (Err LentWords) lent
+      unfolding refusal_11 first_refusal
+      decide_short h =
+          let first : first_refusal (decide_refusals schema query view lent) ≡ Some LentWords =
+              first_lent ∙ rw (lt-ltb (length lent) max_state_words h) refl in
+          record { refused = λ q f. (cc, refl); decided = λ n. absurd (none-some LentWords (sym n ∙ first)) }
+
+      pub decide_decided : max_state_words ≤ length lent → {v : Option Witness} {words : List ℕ} → Verdict schema query view lent v words
+          → Decision schema query view lent (Ok v) words
+      decide_decided h {v} z =
+          let none = first_lent ∙ first_none _ (lent_passed max_state_words lent h, tt) in
+          record { refused = λ r f. absurd (none-some r (sym none ∙ f)); decided = λ n. (v, refl, z) }

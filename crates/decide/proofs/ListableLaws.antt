@@ -1,4 +1,4 @@
--- The candidate in arrays is listed: what each call of `answer_in` relies on, and what stands at the start of the list then.
+-- The candidate in arrays is listed: what each call of `list_in` relies on, and what stands at the start of the list then.
 use Prim.Native.Nat.{ℕ, ◌-◌, ◌≤◌, ◌<◌}
 use mathlib.Core.List.{List}
 use mathlib.Core.Path.{◌≡◌, sym, ap, ◌∙◌}
@@ -20,69 +20,50 @@ use Rattle.candidate.specs.Writing.{Wrote}
 use Rattle.candidate.proofs.WriteLaws.{wrote_start}
 use Rattle.candidate.proofs.BoundLaws.{all_fit}
 use Rattle.construct.specs.Arrays.{constants_from, start_in, listing}
-use Rattle.decide.specs.declared.DecideAnswer.{DecideAnswer}
-use Rattle.decide.specs.Start.{start_answer, start_words, Judged, Listable}
+use Rattle.decide.specs.Start.{Judged, Listable}
 
-module _ (schema view reps edges words : List ℕ) (z : Shape) (ok : Listable schema view reps edges words z) (s : Signature)
-    (is : s ≡ allowing z.marks.used (signature_of schema)) where
-  abbrev from : ℕ
-  from = length reps - s.constants
+module _ {schema view reps edges words : List ℕ} {z : Shape} (ok : Listable schema view reps edges words z) where
+  pub limits : ((signature_of schema).classes ≤ max_classes) × ((signature_of schema).attributes ≤ max_attributes)
+      × ((signature_of schema).constants ≤ max_constants) × (z.sizes.total ≤ max_objects) × (length edges ≤ query_steps)
+  limits = let (a, b, c) = accepted-signature schema (passes_1 schema ok.ready.legal) in (a, b, c, ok.ready.small, ok.few)
 
-  from_is : from ≡ constants_from schema reps
-  from_is = ap (λ (u : Signature). length reps - u.constants) is
+  module _ {s : Signature} (is : s ≡ allowing z.marks.used (signature_of schema)) where
+    from_is : length reps - s.constants ≡ constants_from schema reps
+    from_is = ap (λ (u : Signature). length reps - u.constants) is
 
-  pub constants_inside : s.constants ≤ length reps
-  unfolding schema_of
-  constants_inside = omega (arith, ap (λ (u : Signature). u.constants) is, ok.ready.constants)
+    pub constants_inside : s.constants ≤ length reps
+    unfolding schema_of
+    constants_inside = omega (arith, ap (λ (u : Signature). u.constants) is, ok.ready.constants)
 
-  pub start_before : 1 ≤ from
-  start_before = omega (arith, from_is, ok.begins)
+    pub start_before : 1 ≤ length reps - s.constants
+    start_before = omega (arith, from_is, ok.begins)
 
-  pub start_node_lem : Inside reps × (from - 1 < length reps)
-  start_node_lem = (ok.ready.inside, omega (arith, start_before))
+    -- a list with room for the most facts
+    pub listed_ready : Ready schema reps (length reps - s.constants) edges words z.sizes × NodesIn (length reps) z.marks.nodes
+    listed_ready = (rw from_is ok.ready, ok.marks)
 
-  pub start_is : (d : ℕ) → d ≡ object_in reps (from - 1) → d ≡ start_in schema reps
-  start_is d e = e ∙ ap (λ (i : ℕ). object_in reps (i - 1)) from_is
+    start_is : {d : ℕ} → d ≡ object_in reps (length reps - s.constants - 1) → d ≡ start_in schema reps
+    start_is e = e ∙ ap (λ (i : ℕ). object_in reps (i - 1)) from_is
 
-  pub limits : (s.classes ≤ max_classes) × (s.attributes ≤ max_attributes) × (s.constants ≤ max_constants) × (z.sizes.total ≤ max_objects)
-      × (length edges ≤ query_steps)
-  limits =
-      let (a, b, c) = accepted-signature schema (passes_1 schema ok.ready.legal) in
-      rw is (a, b, c, ok.ready.small, ok.few)
+    -- the facts have been written to the list
+    module _ {out after : List ℕ} {r : ℕ} (w : Wrote 0 (all_facts schema reps (length reps - s.constants) edges words z) out r after) where
+      list_is : take r after ≡ listing schema reps edges words z
+      list_is = (wrote_start _ out r after w).0 ∙ ap (λ (i : ℕ). all_facts schema reps i edges words z) from_is
 
-  -- a list with room for the most facts
-  pub room : (k m : ℕ) → m ≡ most_facts s z.sizes.total (length edges) → m ≤ k
-      → (Ready schema reps from edges words z.sizes × NodesIn (length reps) z.marks.nodes)
-      × (most_facts (schema_of schema).signature z.sizes.total (length edges) ≤ k)
-  unfolding schema_of
-  room k m e h =
-      ((rw from_is ok.ready, ok.marks), omega (arith, e, h, ap (λ (u : Signature). most_facts u z.sizes.total (length edges)) is))
+      pub count_inside : {k : ℕ} → most_facts (signature_of schema) z.sizes.total (length edges) ≤ k → r ≤ k
+      unfolding schema_of
+      count_inside fits =
+          omega (
+            arith,
+            w.end,
+            fits,
+            all_fit schema reps edges words (length reps - s.constants) z,
+            ap (λ (m : ℕ). most_facts (signature_of schema) m (length edges)) ok.ready.number,
+          )
 
-  -- the facts have been written
-  module _ (out after : List ℕ) (r : ℕ) (w : Wrote 0 (all_facts schema reps from edges words z) out r after) where
-    list_is : take r after ≡ listing schema reps edges words z
-    list_is = (wrote_start _ out r after w).0 ∙ ap (λ (i : ℕ). all_facts schema reps i edges words z) from_is
+      pub facts_judged : {d : ℕ} → d ≡ object_in reps (length reps - s.constants - 1) → Judged view z.sizes.total d (take r after) s
+      facts_judged e = rw (list_is, start_is e, is) ok.judged
 
-    pub count_inside : most_facts (schema_of schema).signature z.sizes.total (length edges) ≤ length out → r ≤ length after
-    count_inside fits =
-        omega (
-          arith,
-          w.end,
-          w.size,
-          fits,
-          all_fit schema reps edges words from z,
-          ap (λ (m : ℕ). most_facts (schema_of schema).signature m (length edges)) ok.ready.number,
-        )
-
-    pub count_is : most_facts (schema_of schema).signature z.sizes.total (length edges) ≤ length out → r ≡ length (take r after)
-    count_is fits = sym (length-take-le r after (count_inside fits))
-
-    pub facts_judged : (d : ℕ) → d ≡ object_in reps (from - 1) → Judged view z.sizes.total d (take r after) s
-    facts_judged d e = rw (list_is, start_is d e, is) ok.judged
-
-    -- the answer by what was listed
-    pub answered : (d : ℕ) → d ≡ object_in reps (from - 1) → (lent : List ℕ) (answer : DecideAnswer) (lent' : List ℕ)
-        → (answer ≡ start_answer view z.sizes.total d (take r after)) × (lent' ≡ start_words view z.sizes.total d (take r after) lent)
-        → (answer ≡ start_answer view z.sizes.total (start_in schema reps) (listing schema reps edges words z))
-        × (lent' ≡ start_words view z.sizes.total (start_in schema reps) (listing schema reps edges words z) lent)
-    answered d e lent answer lent' h = rw (list_is, start_is d e) at h
+      -- what is said of the facts listed is said of the candidate's
+      pub listed_is : {d : ℕ} → d ≡ object_in reps (length reps - s.constants - 1) → (d ≡ start_in schema reps) × (take r after ≡ listing schema reps edges words z)
+      listed_is e = (start_is e, list_is)

@@ -1,7 +1,7 @@
--- The answer by the start of the candidate: what the helpers promise of the answer and of the lent words.
+-- What the judge relies on, and what the helpers promise of the lent words.
 use Prim.Native.Nat.{ℕ, ◌≤◌, ◌<◌}
 use mathlib.Core.List.{List, ◌++◌}
-use mathlib.Core.Bool.{So, false}
+use mathlib.Core.Bool.{false}
 use mathlib.Core.Path.{◌≡◌, sym, subst}
 use borrow.Author.Tests.{lt-ltb, le-ltb}
 use lib.ListN.{length, drop}
@@ -9,8 +9,7 @@ use Rattle.records.specs.declared.schema.Signature.{Signature}
 use Rattle.records.specs.Layout.{max_state_words}
 use Rattle.records.specs.Encoding.{state_record}
 use Rattle.judge.specs.Member.{Judgeable}
-use Rattle.decide.specs.declared.DecideAnswer.TheVariants as answers
-use Rattle.decide.specs.Start.{start_inside, start_answer, start_words, Judged}
+use Rattle.decide.specs.Start.{start_inside, start_words, Judged}
 
 module _ (view : List ℕ) (n start : ℕ) (facts : List ℕ) where
   -- the record has been written
@@ -19,17 +18,11 @@ module _ (view : List ℕ) (n start : ℕ) (facts : List ℕ) where
       subst (λ (v : List ℕ). Judgeable s view v start) (sym e)
       record { view_accepted = ok.view_accepted; state_accepted = ok.state_accepted; inside = ok.inside }
 
-  module _ (lent : List ℕ) where
-    pub start_held : So (start_inside view n start facts)
-        → (answers.Held ≡ start_answer view n start facts) × (lent ≡ start_words view n start facts lent)
-    start_held x = (rw x, rw x)
+  -- the lent words, by the verdict and by their room
+  module _ (lent : List ℕ) (x : start_inside view n start facts ≡ false) where
+    pub start_short : length lent < max_state_words → lent ≡ start_words view n start facts lent
+    start_short h = rw (x, lt-ltb (length lent) max_state_words h)
 
-    module _ (x : start_inside view n start facts ≡ false) where
-      pub start_short : length lent < max_state_words
-          → (answers.Open n start ≡ start_answer view n start facts) × (lent ≡ start_words view n start facts lent)
-      start_short h = (rw x, rw (x, lt-ltb (length lent) max_state_words h))
-
-      pub start_written : max_state_words ≤ length lent
-          → (answers.Open n start ≡ start_answer view n start facts)
-          × (state_record n facts ++ drop (length (state_record n facts)) lent ≡ start_words view n start facts lent)
-      start_written h = (rw x, rw (x, le-ltb (length lent) max_state_words h))
+    pub start_written : max_state_words ≤ length lent
+        → state_record n facts ++ drop (length (state_record n facts)) lent ≡ start_words view n start facts lent
+    start_written h = rw (x, le-ltb (length lent) max_state_words h)

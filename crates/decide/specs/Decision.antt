@@ -1,6 +1,7 @@
 -- Decide: "held", with the lent words unaltered, exactly when no legal finite state of any size has an object in the query and
 -- outside the view; otherwise "open", with the record of such a state at the start of the lent words.
-use Rattle.std.specs.Prelude.{ℕ, ◌≤◌, List, [], ◌∷◌, ◌++◌, ◌↔◌, ◌⊎◌, ◌≡◌, length, drop}
+use Rattle.std.specs.Prelude.{ℕ, ◌≤◌, List, [], ◌∷◌, ◌++◌, ◌↔◌, ◌≡◌, length, drop, Option, Some, None, Result, Ok, Err}
+use Rattle.records.specs.declared.refusal.Refusal.{Refusal}
 use Rattle.records.specs.Layout.{max_objects, max_state_words}
 use Rattle.records.specs.Subsumption.{Counterexample, Open, Held}
 use Rattle.records.specs.SchemaRecord.{schema_of}
@@ -8,10 +9,9 @@ use Rattle.records.specs.ConceptRecord.{concept_of}
 use Rattle.records.specs.StateRecord.{state_of}
 use Rattle.records.specs.StateRefusal.{AcceptedState}
 use Rattle.records.specs.Outcome.{choice_signature, first_refusal, schema_refusal, query_refusal, view_refusal, lent_refusal}
-use Rattle.decide.specs.declared.DecideAnswer.{DecideAnswer}
-use Rattle.decide.specs.declared.DecideAnswer.TheVariants as answers
+use Rattle.decide.specs.declared.Witness.{Witness}
 
-abbrev pub decide_refusals : List ℕ → List ℕ → List ℕ → List ℕ → List ℕ
+abbrev pub decide_refusals : List ℕ → List ℕ → List ℕ → List ℕ → List (Option Refusal)
 decide_refusals schema query view lent =
     schema_refusal schema ∷ query_refusal schema query ∷ view_refusal schema view ∷ lent_refusal max_state_words lent ∷ []
 
@@ -27,17 +27,14 @@ module _ (schema query view lent : List ℕ) where
     pub small : n ≤ max_objects
     pub counterexample : Counterexample (schema_of schema) (concept_of query) (concept_of view) (state_of written) d
 
-  module _ (answer : DecideAnswer) (words : List ℕ) where
-    -- what is answered to accepted records
-    pub record Verdict : Type 0 where
-      pub either : (answer ≡ answers.Held) ⊎ ((n d : ℕ) × (answer ≡ answers.Open n d))
-      pub is_held : (answer ≡ answers.Held) ↔ Held (schema_of schema) (concept_of query) (concept_of view)
-      pub unaltered : answer ≡ answers.Held → words ≡ lent
-      pub is_open : ((n d : ℕ) × (answer ≡ answers.Open n d)) ↔ Open (schema_of schema) (concept_of query) (concept_of view)
-      pub shown : (n d : ℕ) → answer ≡ answers.Open n d → Shown n d words
+  -- what is answered to accepted records: nothing for "held", and for "open" how many objects the state has, and the object
+  pub record Verdict (answer : Option Witness) (words : List ℕ) : Type 0 where
+    pub is_held : (answer ≡ None) ↔ Held (schema_of schema) (concept_of query) (concept_of view)
+    pub unaltered : answer ≡ None → words ≡ lent
+    pub is_open : ((w : Witness) × (answer ≡ Some w)) ↔ Open (schema_of schema) (concept_of query) (concept_of view)
+    pub shown : (w : Witness) → answer ≡ Some w → Shown w.objects w.object words
 
-    -- what is answered to any words
-    pub record Decision : Type 0 where
-      pub refused : (first_refusal (decide_refusals schema query view lent) ≡ 0 → ⊥)
-          → (answer ≡ answers.Refused (first_refusal (decide_refusals schema query view lent))) × (words ≡ lent)
-      pub decided : first_refusal (decide_refusals schema query view lent) ≡ 0 → Verdict
+  -- what is answered to any words
+  pub record Decision (answer : Result (Option Witness) Refusal) (words : List ℕ) : Type 0 where
+    pub refused : (r : Refusal) → first_refusal (decide_refusals schema query view lent) ≡ Some r → (answer ≡ Err r) × (words ≡ lent)
+    pub decided : first_refusal (decide_refusals schema query view lent) ≡ None → (v : Option Witness) × (answer ≡ Ok v) × Verdict v words

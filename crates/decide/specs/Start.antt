@@ -1,5 +1,5 @@
 -- What contracts of helper functions cite: the answer by the start of the candidate, which is given by its facts.
-use Rattle.std.specs.Prelude.{ℕ, ◌≤◌, ◌<◌, ◌^◌, Bool, true, false, cond, ◌||◌, List, ◌++◌, ◌↔◌, ◌⊎◌, ◌≡◌, ltb, length, drop}
+use Rattle.std.specs.Prelude.{ℕ, ◌≤◌, ◌<◌, ◌^◌, Bool, cond, ◌||◌, List, ◌++◌, ◌↔◌, ◌≡◌, ltb, length, drop, Option, Some, None}
 use Rattle.records.specs.declared.schema.Signature.{Signature}
 use Rattle.records.specs.Layout.{query_steps, view_steps, max_facts, max_state_words}
 use Rattle.records.specs.Marks.{allowing}
@@ -14,16 +14,15 @@ use Rattle.records.specs.StateRefusal.{AcceptedState}
 use Rattle.candidate.specs.declared.marks.Shape.{Shape}
 use Rattle.candidate.specs.Ready.{Ready, NodesIn}
 use Rattle.construct.specs.Arrays.{constants_from, start_in, listing}
-use Rattle.decide.specs.declared.DecideAnswer.{DecideAnswer}
-use Rattle.decide.specs.declared.DecideAnswer.TheVariants as answers
+use Rattle.decide.specs.declared.Witness.{Witness}
 
 module _ (view : List ℕ) (n start : ℕ) (facts : List ℕ) where
   -- the start is in the view
   unfoldable pub start_inside : Bool
   start_inside = is_in (state_of (state_record n facts)) (concept_of view) start
 
-  abbrev pub start_answer : DecideAnswer
-  start_answer = cond start_inside answers.Held (answers.Open n start)
+  abbrev pub start_answer : Option Witness
+  start_answer = cond start_inside None (Some record { objects = n; object = start })
 
   -- the record is written if the start is outside and there is room for the largest
   abbrev pub start_words : List ℕ → List ℕ
@@ -48,12 +47,6 @@ pub record Listable (schema view reps edges words : List ℕ) (z : Shape) : Type
       Judged view z.sizes.total (start_in schema reps) (listing schema reps edges words z) (allowing z.marks.used (signature_of schema))
 
 -- held or open is said, each exactly when it is so
-pub record Told (schema query view : List ℕ) (answer : DecideAnswer) : Type 0 where
-  pub either : (answer ≡ answers.Held) ⊎ ((n d : ℕ) × (answer ≡ answers.Open n d))
-  pub is_held : (answer ≡ answers.Held) ↔ Held (schema_of schema) (concept_of query) (concept_of view)
-  pub is_open : ((n d : ℕ) × (answer ≡ answers.Open n d)) ↔ Open (schema_of schema) (concept_of query) (concept_of view)
-
-abbrev pub is_held : DecideAnswer → Bool
-is_held answers.Held = true
-is_held (answers.Open n d) = false
-is_held (answers.Refused number) = false
+pub record Told (schema query view : List ℕ) (answer : Option Witness) : Type 0 where
+  pub is_held : (answer ≡ None) ↔ Held (schema_of schema) (concept_of query) (concept_of view)
+  pub is_open : ((w : Witness) × (answer ≡ Some w)) ↔ Open (schema_of schema) (concept_of query) (concept_of view)

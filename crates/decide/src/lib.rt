@@ -4,44 +4,37 @@
 
 ghost use Rattle.decide.specs.Decision.{Decision};
 
+use crate::check::check;
 use crate::verdict::answer;
-use check_concept::{check_query, check_view};
-use check_schema::check_schema;
-use records::concept::ConceptAnswer;
-use records::schema::SchemaAnswer;
+use records::refusal::Refusal;
 use records::state::STATE_WORDS;
 
+mod check;
 pub mod held;
 pub mod holds;
 mod start;
 mod verdict;
 
+// What shows that a query is open to a view: how many objects the written state has, and the object in the query and outside the
+// view.
 #[derive(Clone, Copy)]
-pub enum DecideAnswer {
-    Held,
-    // How many objects the written state has, and the object.
-    Open(usize, usize),
-    // The number of the first refusal that applies.
-    Refused(u16),
+pub struct Witness {
+    pub objects: usize,
+    pub object: usize,
 }
 
-pub fn decide(schema: &[u16], query: &[u16], view: &[u16], lent: &mut [u16]) -> DecideAnswer
+// Nothing where the view holds the query.
+pub fn decide(
+    schema: &[u16],
+    query: &[u16],
+    view: &[u16],
+    lent: &mut [u16],
+) -> Result<Option<Witness>, Refusal>
     ensures { Decision schema.now query.now view.now lent.old result lent.new }
 {
-    let checked = check_schema(schema);
-    let SchemaAnswer::Accepted(s) = checked else {
-        return DecideAnswer::Refused(checked.number());
-    };
-    let read = check_query(s, query);
-    let ConceptAnswer::Accepted(_) = read else {
-        return DecideAnswer::Refused(read.number());
-    };
-    let stored = check_view(s, view);
-    let ConceptAnswer::Accepted(_) = stored else {
-        return DecideAnswer::Refused(stored.number());
-    };
+    check(schema, query, view)?;
     if lent.len() < STATE_WORDS {
-        return DecideAnswer::Refused(11);
+        return Err(Refusal::LentWords);
     }
-    answer(schema, query, view, lent)
+    Ok(answer(schema, query, view, lent))
 }

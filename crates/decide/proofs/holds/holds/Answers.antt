@@ -1,49 +1,18 @@
--- Each return is by the first refusal that applies (OutcomeLaws of records), or by what accepted records are told (HoldingLaws).
-use mathlib.Core.Bool.{cond}
-use mathlib.Core.List.{[], ◌∷◌}
-use mathlib.Core.Path.{◌≡◌, refl, sym, ◌∙◌}
-use Rattle.records.specs.Layout.{query_marks, query_steps, view_steps}
-use Rattle.records.specs.SchemaRecord.{signature_of}
-use Rattle.records.specs.SchemaRefusal.{AcceptedSchema}
-use Rattle.records.specs.ConceptRefusal.{AcceptedConcept}
-use Rattle.records.specs.Outcome.{query_signature, schema_refusal, query_refusal}
-use Rattle.records.proofs.OutcomeLaws.{schema_turned, concept_turned, plain_turned, schema_signature, allowed_known, plain_known, schema_passed, query_passed, view_passed}
-use Rattle.decide.specs.declared.holds.HoldsAnswer.TheVariants as holds
-use Rattle.decide.specs.Holding.{Holding}
-use Rattle.decide.proofs.HoldingLaws.{holds_decided, holds_refused}
+-- By the check, or by what accepted records are told (DecisionLaws).
+use mathlib.Core.Path.{◌≡◌, sym, ◌∙◌}
+use Rattle.std.specs.Prelude.{Err}
+use Rattle.std.proofs.lemmas.Grind.{common_steps}
+use native.Mathlib.Omega.{arith}
+use Rattle.decide.proofs.DecisionLaws.{accepted, holds_refused, holds_decided}
 use Rattle.decide.proofs.holds.holds.Goals as goal
 
-pub returns-in_default : goal.returns-in_default
-returns-in_default c =
-    let a = c.args in
-    holds_refused a.schema.now a.query.now a.view.now [] _ tt
-    (schema_turned a.schema.now c.number.ensures c.check_schema-checked.ensures c.in_default.not-Accepted) refl
-
-pub returns-in_default-read : goal.returns-in_default-read
-returns-in_default-read c =
-    holds_refused c.args.schema.now c.args.query.now c.args.view.now (schema_refusal c.args.schema.now ∷ []) _ (schema_passed _ (let h : (c.in-Accepted.s ≡ signature_of c.args.schema.now) × AcceptedSchema c.args.schema.now = schema_signature c.args.schema.now c.in-Accepted.s (sym c.check_schema-checked.ensures ∙ c.in-Accepted.is) in h).1, tt)
-    (concept_turned c.args.schema.now c.args.query.now (let h : (c.in-Accepted.s ≡ signature_of c.args.schema.now) × AcceptedSchema c.args.schema.now = schema_signature c.args.schema.now c.in-Accepted.s (sym c.check_schema-checked.ensures ∙ c.in-Accepted.is) in h).0 query_steps query_marks c.number-in_default-read.ensures c.check_query-read.ensures c.in_default-read.not-Accepted) refl
-
-pub returns-in_default-stored : goal.returns-in_default-stored
-returns-in_default-stored c =
-    holds_refused c.args.schema.now c.args.query.now c.args.view.now (schema_refusal c.args.schema.now ∷ query_refusal c.args.schema.now c.args.query.now ∷ []) _
-    (schema_passed _ (let h : (c.in-Accepted.s ≡ signature_of c.args.schema.now) × AcceptedSchema c.args.schema.now = schema_signature c.args.schema.now c.in-Accepted.s (sym c.check_schema-checked.ensures ∙ c.in-Accepted.is) in h).1, (query_passed _ _ (let h : AcceptedConcept query_steps (query_signature c.args.schema.now) c.args.query.now = allowed_known _ _ (let h : (c.in-Accepted.s ≡ signature_of c.args.schema.now) × AcceptedSchema c.args.schema.now = schema_signature c.args.schema.now c.in-Accepted.s (sym c.check_schema-checked.ensures ∙ c.in-Accepted.is) in h).0 query_steps query_marks c.check_query-read.ensures c.in-Accepted-read.is in h), tt))
-    (plain_turned c.args.schema.now c.args.view.now (let h : (c.in-Accepted.s ≡ signature_of c.args.schema.now) × AcceptedSchema c.args.schema.now = schema_signature c.args.schema.now c.in-Accepted.s (sym c.check_schema-checked.ensures ∙ c.in-Accepted.is) in h).0 view_steps c.number-in_default-stored.ensures c.check_view-stored.ensures c.in_default-stored.not-Accepted) refl
+pub returns-in_err-check : goal.returns-in_err-check
+returns-in_err-check c =
+    let is : c.from_residual.result ≡ Err c.in_err-check.field-0.0 = grind (arith, common_steps) in
+    rw is (holds_refused _ _ _ (sym c.in_err-check.ensures))
 
 pub held-requires : goal.held-requires
-held-requires c =
-    record {
-      schema_accepted = (let h : (c.in-Accepted.s ≡ signature_of c.args.schema.now) × AcceptedSchema c.args.schema.now = schema_signature c.args.schema.now c.in-Accepted.s (sym c.check_schema-checked.ensures ∙ c.in-Accepted.is) in h).1;
-      query_accepted = (let h : AcceptedConcept query_steps (query_signature c.args.schema.now) c.args.query.now = allowed_known _ _ (let h : (c.in-Accepted.s ≡ signature_of c.args.schema.now) × AcceptedSchema c.args.schema.now = schema_signature c.args.schema.now c.in-Accepted.s (sym c.check_schema-checked.ensures ∙ c.in-Accepted.is) in h).0 query_steps query_marks c.check_query-read.ensures c.in-Accepted-read.is in h);
-      view_accepted = (let h : AcceptedConcept view_steps (signature_of c.args.schema.now) c.args.view.now = plain_known _ _ (let h : (c.in-Accepted.s ≡ signature_of c.args.schema.now) × AcceptedSchema c.args.schema.now = schema_signature c.args.schema.now c.in-Accepted.s (sym c.check_schema-checked.ensures ∙ c.in-Accepted.is) in h).0 view_steps c.check_view-stored.ensures c.in-Accepted-stored.is in h);
-    }
+held-requires c = accepted _ _ _ (sym c.check.ensures ∙ c.in_ok-check.was)
 
-pub returns-then-held : goal.returns-then-held
-returns-then-held c = rw c.if-held.true at (let h : Holding c.args.schema.now c.args.query.now c.args.view.now (cond c.held.result holds.Held holds.Open) = holds_decided c.args.schema.now c.args.query.now c.args.view.now
-    (schema_passed _ (let h : (c.in-Accepted.s ≡ signature_of c.args.schema.now) × AcceptedSchema c.args.schema.now = schema_signature c.args.schema.now c.in-Accepted.s (sym c.check_schema-checked.ensures ∙ c.in-Accepted.is) in h).1, (query_passed _ _ (let h : AcceptedConcept query_steps (query_signature c.args.schema.now) c.args.query.now = allowed_known _ _ (let h : (c.in-Accepted.s ≡ signature_of c.args.schema.now) × AcceptedSchema c.args.schema.now = schema_signature c.args.schema.now c.in-Accepted.s (sym c.check_schema-checked.ensures ∙ c.in-Accepted.is) in h).0 query_steps query_marks c.check_query-read.ensures c.in-Accepted-read.is in h), (view_passed _ _ (let h : AcceptedConcept view_steps (signature_of c.args.schema.now) c.args.view.now = plain_known _ _ (let h : (c.in-Accepted.s ≡ signature_of c.args.schema.now) × AcceptedSchema c.args.schema.now = schema_signature c.args.schema.now c.in-Accepted.s (sym c.check_schema-checked.ensures ∙ c.in-Accepted.is) in h).0 view_steps c.check_view-stored.ensures c.in-Accepted-stored.is in h), tt)))
-    c.held.result c.held.ensures in h)
-
-pub returns-else-held : goal.returns-else-held
-returns-else-held c = rw c.if-held.false at (let h : Holding c.args.schema.now c.args.query.now c.args.view.now (cond c.held.result holds.Held holds.Open) = holds_decided c.args.schema.now c.args.query.now c.args.view.now
-    (schema_passed _ (let h : (c.in-Accepted.s ≡ signature_of c.args.schema.now) × AcceptedSchema c.args.schema.now = schema_signature c.args.schema.now c.in-Accepted.s (sym c.check_schema-checked.ensures ∙ c.in-Accepted.is) in h).1, (query_passed _ _ (let h : AcceptedConcept query_steps (query_signature c.args.schema.now) c.args.query.now = allowed_known _ _ (let h : (c.in-Accepted.s ≡ signature_of c.args.schema.now) × AcceptedSchema c.args.schema.now = schema_signature c.args.schema.now c.in-Accepted.s (sym c.check_schema-checked.ensures ∙ c.in-Accepted.is) in h).0 query_steps query_marks c.check_query-read.ensures c.in-Accepted-read.is in h), (view_passed _ _ (let h : AcceptedConcept view_steps (signature_of c.args.schema.now) c.args.view.now = plain_known _ _ (let h : (c.in-Accepted.s ≡ signature_of c.args.schema.now) × AcceptedSchema c.args.schema.now = schema_signature c.args.schema.now c.in-Accepted.s (sym c.check_schema-checked.ensures ∙ c.in-Accepted.is) in h).0 view_steps c.check_view-stored.ensures c.in-Accepted-stored.is in h), tt)))
-    c.held.result c.held.ensures in h)
+pub returns : goal.returns
+returns c = holds_decided _ _ _ (sym c.check.ensures ∙ c.in_ok-check.was) c.held.ensures
