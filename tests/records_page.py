@@ -21,7 +21,7 @@ SOURCE = {name: "".join((ROOT / "crates" / path).read_text() for path in paths.s
     "named": "records/src/named.rt check_concept/src/named.rt", "check": "check_concept/src/check.rt",
     "refusal": "records/src/refusal.rt",
     "select": "judge/src/select.rt", "legal": "judge/src/legal.rt", "counterexample": "judge/src/counterexample.rt",
-    "links": "links/src/lib.rt", "decide": "decide/src/lib.rt", "holds": "decide/src/holds.rt",
+    "links": "links/src/lib.rt", "decide": "decide/src/lib.rt decide/src/check.rt", "holds": "decide/src/holds.rt decide/src/check.rt",
     "catalogue": "check_catalogue/src/lib.rt catalogue/src/check.rt"}.items()}
 ENTRIES = "".join(path.read_text() for path in sorted((ROOT / "crates" / "bikuvoa_c" / "src").glob("*.rt")))
 held, faults = [], []
