@@ -16,9 +16,9 @@ use Rattle.records.specs.Finite.{bit}
 use Rattle.index.specs.BitSet.{word_bits, bit_at}
 use Rattle.records.proofs.General.BitLaws.{word_or}
 use Rattle.rows.specs.Selection.{set_words}
-use Rattle.rows.specs.Rows.{row_bit, Filled, SharedRow}
+use Rattle.rows.specs.Rows.{row_bit, Filled, Row}
 use Rattle.rows.specs.Blocks.{block_words, block_bits, set_blocks, block_bit, cell, BlockMerged, Joined, Merged}
-use Rattle.rows.proofs.RowLaws.{filled_none, filled_more, row_word, row_same}
+use Rattle.rows.proofs.RowLaws.{filled_none, filled_more, row_word}
 
 pub row_fits : (t n k : ℕ) → t < n → t * k + k ≤ n * k
 row_fits t n k l = omega (arith, mul-le-mul_right k l, suc-mul t k)
@@ -163,9 +163,9 @@ joined_of {ws} {vs} {r} {set} z = record { size = z.size; bits = λ t o l. pick 
         rw (whole_row vs t o, whole_row ws t o, ne_eqb t r n, row_word vs t o, row_word ws t o, z.kept (t * set_words + o / word_bits) (λ i m q. n (omega arith)))
         (sym (or-false _))
 
-pub merged_by : {ws vs set : List ℕ} {r s : ℕ} → SharedRow ws ws s set → Joined ws r set vs → Merged set_blocks ws r s vs
+pub merged_by : {ws vs set : List ℕ} {r s : ℕ} → Row ws s set → Joined ws r set vs → Merged set_blocks ws r s vs
 merged_by {ws} {vs} {set} {r} {s} h z =
     record {
       size = z.size;
-      bits = λ t o l. z.bits t o l ∙ ap (λ (b : Bool). cell set_blocks ws t o || eqb t r && b) ((row_same ws s h).bits o l ∙ sym (whole_row ws s o));
+      bits = λ t o l. z.bits t o l ∙ ap (λ (b : Bool). cell set_blocks ws t o || eqb t r && b) (h.bits o l ∙ sym (whole_row ws s o));
     }

@@ -111,6 +111,11 @@ put_of {ws} {r} {set} {vs} z =
 abbrev pub shared_word : List ℕ → List ℕ → ℕ → ℕ → ℕ
 shared_word ps qs t i = bit_and (get_or ps (t * set_words + i) 0) (get_or qs (t * set_words + i) 0)
 
+pub row_of : {ws : List ℕ} {t : ℕ} {vs : List ℕ} → length vs ≡ set_words → ((i : ℕ) → i < set_words → get_or vs i 0 ≡ get_or ws (t * set_words + i) 0) → Row ws t vs
+unfolding bit_at
+row_of {ws} {t} {vs} e z =
+    record { size = e; bits = λ o l. ap (λ (x : ℕ). bit x (o % word_bits)) (z (o / word_bits) (omega arith)) ∙ sym (row_word ws t o) }
+
 pub shared_row_of : {ps qs : List ℕ} {t : ℕ} {vs : List ℕ} → length vs ≡ set_words → ((i : ℕ) → i < set_words → get_or vs i 0 ≡ shared_word ps qs t i) → SharedRow ps qs t vs
 unfolding bit_at
 shared_row_of {ps} {qs} {t} {vs} e z =

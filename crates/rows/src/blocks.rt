@@ -4,7 +4,7 @@ ghost use Rattle.records.specs.Layout.{object_part};
 ghost use Rattle.rows.specs.Selection.{set_words};
 ghost use Rattle.rows.specs.Blocks.{block_words, set_blocks, blocks_for, BlockMerged, Joined, Merged};
 
-use crate::sets::shared_row;
+use crate::sets::row;
 use crate::sizes::{BLOCK_BITS, BLOCK_WORDS, SET_BLOCKS, SET_WORDS};
 
 // The blocks of a row with a bit for each object below `n`.
@@ -60,7 +60,7 @@ fn merge_whole(rows: &mut [u64], r: usize, s: usize)
     requires set_words_in_bounds_2 { s * set_words + set_words ≤ length rows.old }
     ensures { Merged set_blocks rows.old r s rows.new }
 {
-    let set = shared_row(rows, rows, s);
+    let set = row(rows, s);
     join(rows, r, &set);
 }
 

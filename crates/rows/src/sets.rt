@@ -3,12 +3,21 @@ ghost use Rattle.std.specs.Prelude.{◌+◌, ◌*◌, ◌≤◌, ◌<◌, ◌^�
 ghost use Rattle.records.specs.Layout.{object_part, state_layout, entries, max_facts};
 ghost use Rattle.index.specs.Kinds.{KindsRise};
 ghost use Rattle.rows.specs.Selection.{set_words};
-ghost use Rattle.rows.specs.Rows.{SharedRow, KindSet, Put, Below};
+ghost use Rattle.rows.specs.Rows.{Row, SharedRow, KindSet, Put, Below};
 
 use crate::sizes::SET_WORDS;
 use index::bits::insert;
 use index::kinds::first_of_kind;
 use records::state::object_at;
+
+// Row `t` of `ws` as a set.
+pub fn row(ws: &[u64], t: usize) -> [u64; SET_WORDS]
+    requires { t * set_words + set_words ≤ length ws.now }
+    ensures { Row ws.now t result }
+{
+    let at = t * SET_WORDS;
+    std::array::from_fn(|j| ws[at + j])
+}
 
 // What row `t` of `ps` and of `qs` share.
 pub fn shared_row(ps: &[u64], qs: &[u64], t: usize) -> [u64; SET_WORDS]

@@ -3,4 +3,4 @@ use Rattle.rows.proofs.BlockLaws.{merged_by}
 use Rattle.rows.proofs.blocks.merge_whole.Goals as goal
 
 pub returns : goal.returns
-returns c = merged_by c.shared_row-set.ensures c.join.ensures
+returns c = merged_by c.row-set.ensures c.join.ensures
