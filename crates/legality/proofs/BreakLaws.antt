@@ -10,12 +10,11 @@ use borrow.Author.Tests.{eq-eqb, eqb-true, not-false}
 use Rattle.records.specs.declared.schema.Axiom.{Axiom}
 use Rattle.records.specs.declared.schema.Axiom.TheVariants.{Subclass, Typing, Necessary, Single, Relates}
 use Rattle.records.specs.declared.schema.Signature.{Signature}
-use Rattle.records.specs.Finite.{any}
 use Rattle.records.specs.Schema.{Holds}
 use Rattle.records.specs.Layout.{state_layout, entries, right_at, attribute_kinds, fact_kinds}
 use Rattle.records.specs.StateRecord.{objects, kind_at, object_at, says, state_of}
 use Rattle.records.specs.StateRefusal.{AcceptedState}
-use Rattle.records.proofs.General.BoolLaws.{and_both, and_map, and_three_map, not_both, false_of_not}
+use Rattle.records.proofs.General.BoolLaws.{and_both, and_map, not_both, false_of_not}
 use Rattle.records.proofs.General.FiniteLaws.{any_found, any_none}
 use Rattle.records.proofs.AcceptedLaws.{passes_7, objects_few}
 use Rattle.records.proofs.FactLaws.{says_iff, PairFact, pair_iff, pair_of, object_inside, second_inside}
