@@ -17,14 +17,10 @@ use Rattle.chase.specs.Primary.{Prime, rep_of, set_of}
 use Rattle.chase.specs.Ground.{live, object_of, listing}
 use Rattle.primary.specs.Formed.{prime}
 use Rattle.chase.specs.Bounds.{max_nodes}
-use Rattle.primary.specs.Words.{part}
+use Rattle.primary.specs.Words.{part, edge_of, EdgeIn}
 use Rattle.ground.specs.Objects.{ground_word}
 use Rattle.ground.specs.Laying.{Grounds}
 use Rattle.ground.specs.Numbers.{Inside, live_in, object_in}
-
-pub count_none : (f : ℕ → Bool) → 0 ≡ count 0 f
-unfolding count
-count_none f = refl
 
 -- the word at the end stays if its number passes
 laid_turn : (test : ℕ → Bool) (f word : ℕ → ℕ) (l : List ℕ) (i k v : ℕ) (b : Bool) → k < length l → b ≡ test i → v ≡ word (f i)
@@ -71,3 +67,8 @@ live_any r s n = refl
 pub object_part_lem : (r : List ℕ) (n k : ℕ) → Inside r × (n < length r) → length r ≤ max_nodes → k ≡ object_in r n → k < part
 unfolding object_of rep_of
 object_part_lem r n k h few e = omega (arith, h.0 n h.1, count_le (live_in r) (get_or r n 0))
+
+pub ends_part : (r : List ℕ) → Inside r → length r ≤ max_nodes → (w : ℕ) → EdgeIn (length r) w
+    → (object_in r (edge_of w).origin < part) × (object_in r (edge_of w).target < part)
+ends_part r inside few w e =
+    (object_part_lem r _ _ (inside, e.origin) few refl, object_part_lem r _ _ (inside, e.target) few refl)

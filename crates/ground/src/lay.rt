@@ -18,7 +18,7 @@ const NO_LINK: u64 = 65535;
 fn ground_word(set: u32) -> u64
     ensures { result ≡ ground_word set }
 {
-    set as u64 * LINK_PART + NO_LINK
+    u64::from(set) * LINK_PART + NO_LINK
 }
 
 // Returns how many objects there are. The word of a node that is not live is written over by the next.
@@ -26,11 +26,10 @@ pub fn lay(reps: &[u32], sets: &[u32], objects: &mut [u64; MAX_OBJECTS]) -> usiz
     requires { Formed reps.now sets.now × (length reps.now ≤ max_nodes) × (length objects.old ≡ max_objects) }
     ensures { Grounds (prime reps.now sets.now) (length reps.now) result objects.new }
 {
-    let n = reps.len();
     let mut count = 0;
-    for i in 0..n {
+    for i in 0..reps.len() {
         objects[count] = ground_word(set_of(reps, sets, i));
-        count += live(reps, i) as usize;
+        count += usize::from(live(reps, i));
     }
     count
 }

@@ -1,8 +1,7 @@
 -- The nodes passed are laid.
-use Prim.Native.Nat.{◌≤◌}
 use Rattle.primary.specs.Formed.{prime}
 use Rattle.ground.specs.Laying.{Grounds}
 use Rattle.ground.proofs.lay.lay.Given as goal
 
 abbrev pub invariant-loop-i : goal.invariant-loop-i
-invariant-loop-i l = (l.i ≤ l.n) × Grounds (prime l.reps l.sets) l.i l.count l.objects
+invariant-loop-i l = Grounds (prime l.reps l.sets) l.i l.count l.objects

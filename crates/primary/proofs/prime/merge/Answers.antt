@@ -1,14 +1,14 @@
 -- The lower representative goes to the higher.
-use Rattle.std.proofs.Common.{sym, subst}
-use Rattle.chase.specs.Primary.{rep_of}
-use Rattle.primary.specs.Formed.{Becomes}
-use Rattle.primary.proofs.FormedLaws.{becomes_self, merge_apart, merge_self}
+use Rattle.std.proofs.Common.{arith}
+use Rattle.std.proofs.lemmas.Bool.Decides.{nat_tests}
+use Rattle.chase.specs.Primary.{rep_of, merge}
+use Rattle.primary.proofs.FormedLaws.{becomes_self}
 use Rattle.primary.proofs.prime.merge.Goals as goal
 
 pub returns-then-a-b : goal.returns-then-a-b
-unfolding rep_of
-returns-then-a-b c = subst (Becomes _ _ _) (sym (merge_apart _ _ _ c.if-a-b.true)) (rw (c.min.ensures, c.max.ensures) at c.join.ensures)
+unfolding rep_of merge
+returns-then-a-b c = grind (arith, nat_tests)
 
 pub returns-else-a-b : goal.returns-else-a-b
-unfolding rep_of
-returns-else-a-b c = subst (Becomes _ _ _) (sym (merge_self _ _ _ c.if-a-b.false)) (becomes_self _ _ c.requires.0)
+unfolding rep_of merge
+returns-else-a-b c = grind (arith, nat_tests, becomes_self)

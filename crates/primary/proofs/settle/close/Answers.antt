@@ -16,13 +16,3 @@ settle-requires c = (
   begin_is _ _ _ _ c.requires.1 c.begin.ensures.reps_after
       (c.begin.ensures.sets_after ∙ ap (λ (k : ℕ). replicate k 0) (c.requires.2 ∙ sym c.requires.1)),
 )
-
-pub shape_of-reps : goal.shape_of-reps
-shape_of-reps c = c.settle.ensures.size ∙ sym c.requires.1
-
-pub shape_of-sets : goal.shape_of-sets
-shape_of-sets c =
-    c.settle.ensures.formed.paired ∙ c.settle.ensures.size ∙ sym c.requires.2
-
-pub returns : goal.returns
-returns c = c.settle.ensures

@@ -5,9 +5,6 @@ use Rattle.primary.specs.Asked.{query_task}
 use Rattle.primary.proofs.SettleLaws.{begins_ok, round_first, round_ok, round_next, round_less, round_last, ok_formed, asks_formed, room, ready, passed_is, passed_ok}
 use Rattle.primary.proofs.settle.settle.Goals as goal
 
-pub domains-table-requires : goal.domains-table-requires
-domains-table-requires c = c.requires.0.legal
-
 pub weight-last-requires : goal.weight-last-requires
 weight-last-requires c =
     let (asks, begins) = c.requires in room _ _ _ _ _ asks _ _ (begins_ok _ (asks_formed _ _ _ _ _ asks) _ begins)
