@@ -4,7 +4,7 @@ use mathlib.Core.List.{List}
 use mathlib.Core.Bool.{Bool, true, false, false≢true, cond, not, ◌&&◌}
 use mathlib.Core.Path.{◌≡◌, refl, sym, ap₂}
 use lib.Dec.{eqb, ltb}
-use Rattle.std.specs.Prelude.{Option, Some, None, Ok}
+use Rattle.std.specs.Prelude.{Some, None, Ok}
 use Rattle.std.specs.Option.{is_some}
 use Rattle.records.specs.declared.schema.Signature.{Signature}
 use Rattle.records.specs.declared.named.Named.{Named}
@@ -53,7 +53,7 @@ module _ (S : Schema) (I : State) (query view : Concept) where
     where
       pick : (b : Bool) → is_some (cond b None (Some (first_broken S I))) ≡ false
           → cond (ltb (lowest I query view) I.size) (Some (lowest I query view)) None
-              ≡ cond (b && ltb (lowest I query view) I.size) (Some (lowest I query view)) None
+          ≡ cond (b && ltb (lowest I query view) I.size) (Some (lowest I query view)) None
       pick true e = refl
       pick false e = absurd (false≢true (sym e))
 

@@ -26,13 +26,7 @@ fn lowest(query: &[u64; SET_WORDS], view: &[u64; SET_WORDS], n: usize) -> Option
 }
 
 // What accepted records answer.
-fn find(
-    s: Signature,
-    schema: &[u16],
-    query: &[u16],
-    view: &[u16],
-    state: &[u16],
-) -> Option<usize>
+fn find(s: Signature, schema: &[u16], query: &[u16], view: &[u16], state: &[u16]) -> Option<usize>
     requires { Accepted s schema.now query.now view.now state.now }
     ensures { result ≡ finding (schema_of schema.now) (state_of state.now) (concept_of query.now) (concept_of view.now) }
 {
@@ -46,10 +40,7 @@ fn find(
 }
 
 // The lowest counterexample, if there is one, or the first refusal that applies.
-#[tactic(auto,
-    using(std::proofs::lemmas::Grind::common_steps, crate::proofs::CheckLaws::declared_by),
-    unfolding(records::specs::Outcome::outcome, records::specs::Outcome::first_refusal)
-)]
+#[tactic(auto, using(std::proofs::lemmas::Grind::common_steps, crate::proofs::CheckLaws::declared_by), unfolding(records::specs::Outcome::outcome, records::specs::Outcome::first_refusal))]
 pub fn counterexample(
     schema: &[u16],
     query: &[u16],

@@ -29,10 +29,7 @@ fn flag(set: &[u64; SET_WORDS], n: usize, lent: &mut [u16]) -> usize
 }
 
 // How many objects are selected, or the first refusal that applies.
-#[tactic(auto,
-    using(std::proofs::lemmas::Grind::common_steps, crate::proofs::CheckLaws::declared_by),
-    unfolding(records::specs::Outcome::outcome, records::specs::Outcome::first_refusal)
-)]
+#[tactic(auto, unfolding(records::specs::Outcome::outcome, records::specs::Outcome::first_refusal))]
 pub fn select(
     schema: &[u16],
     concept: &[u16],

@@ -10,10 +10,6 @@ use Rattle.evaluate.proofs.EvaluationLaws.{evaluable}
 use Rattle.judge.proofs.CounterexampleLaws.{find_illegal, find_legal}
 use Rattle.judge.proofs.counterexample.find.Goals as goal
 
-pub first_broken-requires : goal.first_broken-requires
-first_broken-requires c =
-    record { schema_accepted = c.requires.schema_accepted; state_accepted = c.requires.state_accepted; index = c.index-seen.ensures }
-
 pub evaluate-inside-requires : goal.evaluate-inside-requires
 evaluate-inside-requires c = evaluable query_steps c.requires.query_accepted c.requires.state_accepted
 
