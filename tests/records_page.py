@@ -69,7 +69,7 @@ def value(text):
 
 
 def function(source, name):
-    return re.search(rf"^( *)(?:pub )?fn {name}\(.*?^\1\}}$", SOURCE[source], re.M | re.S).group()
+    return re.search(rf"^( *)(?:pub )?fn {name}(?:<.*>)?\(.*?^\1\}}$", SOURCE[source], re.M | re.S).group()
 
 
 def in_function(source, name, pattern):
