@@ -11,24 +11,11 @@ pub struct Layout {
     pub counter: usize,
 }
 
-pub fn wide(x: u16) -> usize
-    ensures { result ≡ x }
-{
-    x as usize
-}
-
-pub fn narrow(x: usize) -> u16
-    requires { x < 2 ^ 16 }
-    ensures { result ≡ x }
-{
-    x as u16
-}
-
 // The word at `i`, or 0 past the end: no index can be out of range.
 pub fn word(words: &[u16], i: usize) -> usize
     ensures { IsWord (get_or words.now i 0) result }
 {
-    if i < words.len() { wide(words[i]) } else { 0 }
+    words.get(i).map_or(0, |word| usize::from(*word))
 }
 
 pub fn entries(layout: Layout, words: &[u16]) -> usize
