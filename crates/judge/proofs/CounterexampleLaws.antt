@@ -1,20 +1,32 @@
 -- The answer of counterexample on accepted records, by the first broken axiom and the two sets that evaluation gives.
-use Prim.Native.Nat.{ℕ, ◌≤◌, ◌<◌}
+use Prim.Native.Nat.{ℕ, ◌≤◌}
 use mathlib.Core.List.{List}
-use mathlib.Core.Bool.{Bool, not, ◌&&◌}
-use mathlib.Core.Path.{◌≡◌, ap₂}
-use borrow.Author.Tests.{eq-eqb, ne_eqb, lt-ltb, le-ltb}
-use Rattle.records.specs.Finite.{least}
-use Rattle.records.proofs.General.FiniteLaws.{least_same}
-use Rattle.records.specs.Layout.{object_part}
+use mathlib.Core.Bool.{Bool, true, false, false≢true, cond, not, ◌&&◌}
+use mathlib.Core.Path.{◌≡◌, refl, sym, ap₂}
+use lib.Dec.{eqb, ltb}
+use Rattle.std.specs.Prelude.{Some, None, Ok}
+use Rattle.std.specs.Option.{is_some}
+use Rattle.records.specs.declared.schema.Signature.{Signature}
+use Rattle.records.specs.declared.named.Named.{Named}
+use Rattle.records.specs.Finite.{any, least}
+use Rattle.records.specs.Layout.{object_part, query_steps, view_steps, query_marks, no_marks}
 use Rattle.records.specs.State.{State}
 use Rattle.records.specs.Schema.{Schema}
 use Rattle.records.specs.Concept.{Concept}
-use Rattle.records.specs.Executable.{first_broken}
+use Rattle.records.specs.Executable.{first_broken, broken}
+use Rattle.records.specs.SchemaRecord.{signature_of}
+use Rattle.records.specs.SchemaRefusal.{schema_answer}
+use Rattle.records.specs.ConceptRefusal.{concept_answer}
+use Rattle.records.specs.StateRefusal.{state_answer}
+use Rattle.records.specs.Marks.{allowing, used_marks}
+use Rattle.records.proofs.General.FiniteLaws.{least_same}
+use Rattle.records.proofs.General.RangeLaws.{any_least}
+use Rattle.records.proofs.MarkLaws.{accepted_used, accepted_allowing}
+use Rattle.records.proofs.OutcomeLaws.{schema_signature, concept_named}
 use Rattle.rows.specs.Selection.{Selection}
-use Rattle.judge.specs.declared.counterexample.CounterexampleAnswer.TheVariants.{No, Yes}
-use Rattle.judge.specs.Counterexample.{separates, lowest, finding, apart}
+use Rattle.judge.specs.Counterexample.{separates, lowest, finding, apart, Accepted}
 use Rattle.evaluate.proofs.EvaluationLaws.{selected_bit}
+use Rattle.judge.proofs.CheckLaws.{declared_by}
 
 -- the search over the two sets is that over the concepts
 pub lowest_is : (I : State) (query view : Concept) (inside outside : List ℕ) → Selection I query inside → Selection I view outside → I.size ≤ object_part
@@ -24,15 +36,38 @@ lowest_is I query view inside outside q v few =
     (λ d h. ap₂ (λ (a b : Bool). a && not b) (selected_bit I query inside q few d h) (selected_bit I view outside v few d h))
 
 module _ (S : Schema) (I : State) (query view : Concept) where
-  pub find_illegal : (first_broken S I ≡ S.axioms → ⊥) → No ≡ finding S I query view
-  unfolding finding
-  find_illegal n = rw (ne_eqb (first_broken S I) S.axioms n)
+  pub find_illegal : is_some (broken S I) ≡ true → None ≡ finding S I query view
+  unfolding broken finding
+  find_illegal e = pick (eqb (first_broken S I) S.axioms) e
+    where
+      pick : (b : Bool) → is_some (cond b None (Some (first_broken S I))) ≡ true
+          → None ≡ cond (b && ltb (lowest I query view) I.size) (Some (lowest I query view)) None
+      pick true e = absurd (false≢true e)
+      pick false e = refl
 
-  module _ (legal : first_broken S I ≡ S.axioms) (d : ℕ) (e : d ≡ lowest I query view) where
-    pub find_yes : d < I.size → Yes d ≡ finding S I query view
-    unfolding finding
-    find_yes h = rw (eq-eqb (first_broken S I) S.axioms legal, ← e, lt-ltb d I.size h)
+  pub find_legal : (inside outside : List ℕ) → Selection I query inside → Selection I view outside → I.size ≤ object_part → is_some (broken S I) ≡ false
+      → cond (any I.size (apart inside outside)) (Some (least I.size (apart inside outside))) None ≡ finding S I query view
+  unfolding broken finding
+  find_legal inside outside q v few e =
+      rw (any_least (apart inside outside) I.size, lowest_is I query view inside outside q v few) (pick (eqb (first_broken S I) S.axioms) e)
+    where
+      pick : (b : Bool) → is_some (cond b None (Some (first_broken S I))) ≡ false
+          → cond (ltb (lowest I query view) I.size) (Some (lowest I query view)) None
+          ≡ cond (b && ltb (lowest I query view) I.size) (Some (lowest I query view)) None
+      pick true e = refl
+      pick false e = absurd (false≢true (sym e))
 
-    pub find_none : I.size ≤ d → No ≡ finding S I query view
-    unfolding finding
-    find_none h = rw (eq-eqb (first_broken S I) S.axioms legal, ← e, le-ltb d I.size h)
+-- what the checks accept
+pub accepted : {schema query view state : List ℕ} {s : Signature} {x y : Named} → schema_answer schema ≡ Ok s
+    → concept_answer query_steps (allowing query_marks s) query ≡ Ok x → concept_answer view_steps (allowing no_marks s) view ≡ Ok y
+    → state_answer (allowing (used_marks query) s) state ≡ Ok tt → Accepted (allowing (used_marks query) s) schema query view state
+accepted {schema} {query} {view} {state} {s} d q v t =
+    let same = declared_by schema d in
+    let asked = concept_named query_steps (allowing query_marks (signature_of schema)) query (rw same.0 at q) in
+    let stored = concept_named view_steps (signature_of schema) view (rw same.1 at v) in
+    record {
+      schema_accepted = (schema_signature schema d).1;
+      query_accepted = rw same.0 (accepted_used query_steps (signature_of schema) query_marks query asked.1);
+      view_accepted = rw same.0 (accepted_allowing view_steps schema view (used_marks query) stored.1);
+      state_accepted = t;
+    }

@@ -1,5 +1,5 @@
 -- Laws that the entries' proofs share, and what the answers say in the terms of the definitions.
-pub mod LegalLaws
+mod CheckLaws
 pub mod SelectLaws
 mod FlagLaws
 pub mod CounterexampleLaws

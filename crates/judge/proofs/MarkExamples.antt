@@ -4,6 +4,9 @@
 use Prim.Native.Nat.{ℕ, ◌+◌}
 use mathlib.Core.List.{List, [], ◌∷◌}
 use mathlib.Core.Path.{◌≡◌, refl}
+use Rattle.std.specs.Prelude.{Option, Some, None, Result, Ok, Err}
+use Rattle.records.specs.declared.refusal.Refusal.{Refusal}
+use Rattle.records.specs.declared.refusal.Refusal.TheVariants as refusal
 use Rattle.records.specs.Finite.{any, all, count, sum, set_of, least}
 use Rattle.records.specs.State.{repeats}
 use Rattle.records.specs.Layout.{schema_layout, concept_layout, state_layout, size_at, entries, left_at, right_at, length_for, mark_kinds}
@@ -18,10 +21,6 @@ use Rattle.records.specs.StateRefusal.{refusal_7, faulty_fact, refusal_8, ascend
 use Rattle.records.specs.Outcome.{refusal_11, first_refusal, outcome}
 use Rattle.records.specs.Encoding.{Words, record_of, schema_record, concept_record, steps_in, fact, class_facts_in, state_record}
 use Rattle.records.proofs.Examples.{schema_x}
-use Rattle.judge.specs.declared.counterexample.CounterexampleAnswer.{CounterexampleAnswer}
-use Rattle.judge.specs.declared.counterexample.CounterexampleAnswer.TheVariants.{No, Yes, Refused}
-use Rattle.judge.specs.declared.select.SelectAnswer.{SelectAnswer}
-use Rattle.judge.specs.declared.select.SelectAnswer.TheVariants as select
 use Rattle.judge.specs.Counterexample.{finding, counterexample_answer}
 use Rattle.judge.specs.Select.{flags, selection, select_outcome}
 
@@ -48,24 +47,24 @@ wearer k j = (5, 0) ∷ (10, k) ∷ (6, 0) ∷ (8, 0) ∷ (10, j) ∷ (4, 0) ∷
 abbrev together : ℕ → ℕ → List Words
 together k j = (10, k) ∷ (10, j) ∷ (4, 0) ∷ []
 
-abbrev answer : List Words → List Words → List ℕ → CounterexampleAnswer
+abbrev answer : List Words → List Words → List ℕ → Result (Option ℕ) Refusal
 answer query view marks = counterexample_answer schema_x (concept_record query) (concept_record view) (choosing marks)
 
-abbrev selected : List Words → List ℕ → SelectAnswer
+abbrev selected : List Words → List ℕ → Result ℕ Refusal
 selected concept marks = (select_outcome schema_x (concept_record concept) (choosing marks) (9 ∷ 9 ∷ 9 ∷ [])).answer
 
 abbrev Answered : Type 0
 Answered =
-    (answer (marked 0) constant (mark 0 1 ∷ []) ≡ Yes 1) × (answer (marked 0) constant (mark 0 0 ∷ []) ≡ No)
-    × (answer (wearer 0 1) constant (mark 0 2 ∷ mark 1 1 ∷ []) ≡ Yes 1) × (answer (wearer 0 0) constant (mark 0 2 ∷ []) ≡ No)
-    × (answer (together 0 3) constant (mark 0 1 ∷ mark 3 1 ∷ []) ≡ Yes 1) × (answer (together 0 3) constant (mark 0 1 ∷ mark 3 2 ∷ []) ≡ No)
+    (answer (marked 0) constant (mark 0 1 ∷ []) ≡ Ok (Some 1)) × (answer (marked 0) constant (mark 0 0 ∷ []) ≡ Ok None)
+    × (answer (wearer 0 1) constant (mark 0 2 ∷ mark 1 1 ∷ []) ≡ Ok (Some 1)) × (answer (wearer 0 0) constant (mark 0 2 ∷ []) ≡ Ok None)
+    × (answer (together 0 3) constant (mark 0 1 ∷ mark 3 1 ∷ []) ≡ Ok (Some 1)) × (answer (together 0 3) constant (mark 0 1 ∷ mark 3 2 ∷ []) ≡ Ok None)
 
 abbrev TurnedBack : Type 0
 TurnedBack =
-    (answer (marked 0) constant [] ≡ Refused 10) × (answer (marked 0) constant (mark 0 1 ∷ mark 0 2 ∷ []) ≡ Refused 10)
-    × (answer (marked 0) constant (mark 0 1 ∷ mark 1 1 ∷ []) ≡ Refused 8) × (answer (marked 4) constant [] ≡ Refused 4)
-    × (answer (marked 0) (marked 0) (mark 0 1 ∷ []) ≡ Refused 4)
-    × (selected (marked 0) [] ≡ select.Refused 4) × (selected constant (mark 0 1 ∷ []) ≡ select.Refused 8)
+    (answer (marked 0) constant [] ≡ Err refusal.StateNames) × (answer (marked 0) constant (mark 0 1 ∷ mark 0 2 ∷ []) ≡ Err refusal.StateNames)
+    × (answer (marked 0) constant (mark 0 1 ∷ mark 1 1 ∷ []) ≡ Err refusal.StateFact) × (answer (marked 4) constant [] ≡ Err refusal.ConceptToken)
+    × (answer (marked 0) (marked 0) (mark 0 1 ∷ []) ≡ Err refusal.ConceptToken)
+    × (selected (marked 0) [] ≡ Err refusal.ConceptToken) × (selected constant (mark 0 1 ∷ []) ≡ Err refusal.StateFact)
 
 pub marks_by_hand : Answered × TurnedBack
 unfolding

@@ -8,13 +8,13 @@ use native.Mathlib.Decide.{dec_lt}
 use lib.Dec.{eqb}
 use lib.ListN.{length, drop, get_or, get_or-append, length-append, length-drop}
 use lib.Seq.{get_or-append-add, get_or-drop}
+use Rattle.std.specs.Prelude.{Ok}
 use Rattle.records.specs.State.{State}
 use Rattle.records.specs.Concept.{Concept}
 use Rattle.records.specs.Executable.{is_in}
 use Rattle.records.proofs.General.BoolLaws.{false_of}
 use Rattle.records.proofs.General.FiniteLaws.{count_same}
 use Rattle.records.proofs.ExecutableLaws.{is_in_iff}
-use Rattle.judge.specs.declared.select.SelectAnswer.TheVariants as select
 use Rattle.judge.specs.Select.{flags, selection}
 use Rattle.judge.specs.Exact.{Selected}
 use Rattle.judge.proofs.FlagLaws.{flags_length}
@@ -61,7 +61,7 @@ module _ (I : State) (C : Concept) (lent : List ℕ) (room : I.size ≤ length l
         later = word_later;
         kept = simp (length-append, length-drop) (omega (arith, flags_length (is_in I C) I.size));
         counted =
-            ap select.Selected
+            ap Ok
             (count_same (is_in I C) (λ i. eqb (get_or words i 0) 1) I.size
             (λ i l. flag_one (is_in I C i) ∙ ap (λ (k : ℕ). eqb k 1) (sym (word_at i l))));
       }

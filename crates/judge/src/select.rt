@@ -4,21 +4,13 @@ ghost use Rattle.records.specs.Finite.{count};
 ghost use Rattle.index.specs.BitSet.{bit_at};
 ghost use Rattle.judge.specs.Select.{flags, select_outcome};
 
-use check_concept::check_plain;
+use check_concept::check_concept;
 use check_schema::check_schema;
 use check_state::check_state;
-use records::concept::ConceptAnswer;
-use records::schema::SchemaAnswer;
-use records::state::{StateAnswer, objects};
+use records::concept::Plain;
+use records::refusal::Refusal;
+use records::state::objects;
 use rows::sizes::SET_WORDS;
-
-#[derive(Clone, Copy)]
-pub enum SelectAnswer {
-    // How many objects are selected.
-    Selected(usize),
-    // The number of the first refusal that applies.
-    Refused(u16),
-}
 
 // Writes 1 or 0 for each of the first `n` numbers, by whether the set has it, and counts the ones.
 fn flag(set: &[u64; SET_WORDS], n: usize, lent: &mut [u16]) -> usize
@@ -27,33 +19,32 @@ fn flag(set: &[u64; SET_WORDS], n: usize, lent: &mut [u16]) -> usize
     ensures words { lent.new ≡ flags (bit_at set.now) n ++ drop n lent.old }
 {
     let mut found = 0;
+    // By number: of what is written through `lent.iter_mut()` under an adapter, as `enumerate`, the check knows nothing.
     for i in 0..n {
         let here = index::bits::has(set, i);
-        lent[i] = here as u16;
-        found += here as usize;
+        lent[i] = u16::from(here);
+        found += usize::from(here);
     }
     found
 }
 
-pub fn select(schema: &[u16], concept: &[u16], state: &[u16], lent: &mut [u16]) -> SelectAnswer
+// How many objects are selected, or the first refusal that applies.
+#[tactic(auto, unfolding(records::specs::Outcome::outcome, records::specs::Outcome::first_refusal))]
+pub fn select(
+    schema: &[u16],
+    concept: &[u16],
+    state: &[u16],
+    lent: &mut [u16],
+) -> Result<usize, Refusal>
     ensures { record { answer = result; words = lent.new } ≡ select_outcome schema.now concept.now state.now lent.old }
 {
-    let checked = check_schema(schema);
-    let SchemaAnswer::Accepted(s) = checked else {
-        return SelectAnswer::Refused(checked.number());
-    };
-    let read = check_plain(s, concept);
-    let ConceptAnswer::Accepted(_) = read else {
-        return SelectAnswer::Refused(read.number());
-    };
-    let judged = check_state(s, state);
-    let StateAnswer::Accepted = judged else {
-        return SelectAnswer::Refused(judged.number());
-    };
+    let s = check_schema(schema)?;
+    check_concept::<Plain>(s, concept)?;
+    check_state(s, state)?;
     let n = objects(state);
     if lent.len() < n {
-        return SelectAnswer::Refused(11);
+        return Err(Refusal::LentWords);
     }
     let set = evaluate::evaluate(s, concept, state);
-    SelectAnswer::Selected(flag(&set, n, lent))
+    Ok(flag(&set, n, lent))
 }

@@ -1,5 +1,5 @@
--- Laws that several proofs here share.
+-- Laws that the proofs here share.
+mod RowLaws
 mod FactLaws
 mod BreakLaws
-mod AskedLaws
 mod SearchLaws

@@ -1,105 +1,72 @@
--- What the search for the first broken axiom knows while it goes on, and at each of its ends.
--- An axiom of an accepted schema names only what the index has bits for, so BreakLaws applies to it.
-use Prim.Native.Nat.{ℕ, ◌+◌, ◌≤◌, ◌<◌}
-use mathlib.Core.Bool.{Bool, false, So, not}
+-- The search for the first broken axiom. An axiom of an accepted schema names only what the index has bits for, so BreakLaws
+-- applies to it.
+use Prim.Native.Nat.{ℕ, ◌<◌}
+use mathlib.Core.Bool.{Bool, true, false, So, cond, not}
 use mathlib.Core.List.{List}
-use mathlib.Core.Path.{◌≡◌, sym, ap, subst}
-use native.Mathlib.Nat.{le_of_lt}
+use mathlib.Core.Path.{◌≡◌, refl, ap, ◌∙◌}
+use native.Mathlib.Decide.{dec_lt}
 use native.Mathlib.Omega.{arith}
+use borrow.Author.Tests.{lt-ltb, le-ltb, eq-eqb, ne_eqb}
+use lib.Dec.{eqb, ltb}
+use Rattle.std.specs.Prelude.{Option, Some, None}
 use Rattle.records.specs.declared.schema.Axiom.{Axiom}
 use Rattle.records.specs.declared.schema.Signature.{Signature}
-use Rattle.records.specs.Finite.{any}
-use Rattle.records.specs.Schema.{Schema, Holds}
-use Rattle.records.specs.State.{State}
-use Rattle.records.specs.Executable.{holds, first_broken}
-use Rattle.records.specs.Layout.{schema_layout, state_layout, entries, max_facts}
+use Rattle.records.specs.Finite.{any, least}
+use Rattle.records.specs.Executable.{holds, broken}
+use Rattle.records.specs.Layout.{schema_layout, entries}
 use Rattle.records.specs.SchemaRecord.{schema_of}
-use Rattle.records.specs.StateRecord.{objects as objects_of, state_of}
+use Rattle.records.specs.StateRecord.{state_of}
 use Rattle.records.specs.Helpers.InRange.{AxiomInRange}
-use Rattle.records.proofs.General.BoolLaws.{false_of, not_of_false}
-use Rattle.records.proofs.General.FiniteLaws.{any_zero, any_still, any_none, none_any, least_is}
+use Rattle.records.proofs.General.BoolLaws.{test_same, false_of, not_of_false, false_of_not, not_both}
+use Rattle.records.proofs.General.FiniteLaws.{least_same, least_le}
+use Rattle.records.proofs.General.RangeLaws.{any_least}
 use Rattle.records.proofs.ExecutableLaws.{holds_iff}
-use Rattle.records.proofs.AcceptedLaws.{axiom_in_range, passes_7, facts_few}
-use Rattle.index.specs.Kinds.{KindsRise, KindParts}
+use Rattle.records.proofs.AcceptedLaws.{axiom_in_range}
+use Rattle.index.specs.Kinds.{KindsRise}
 use Rattle.index.proofs.KindLaws.{kinds_rise}
 use Rattle.legality.specs.Legality.{Judged}
-use Rattle.legality.specs.Breaks.{object_breaks, pair_breaks}
-use Rattle.legality.specs.Asked.{objects_asked, kind_asked}
-use Rattle.legality.proofs.BreakLaws.{object_broken, pair_broken, unbroken}
-use Rattle.legality.proofs.AskedLaws.{objects_asked_few, objects_asked_all, pairs_before, pairs_after}
+use Rattle.legality.specs.Breaks.{breaks}
+use Rattle.legality.proofs.BreakLaws.{broken_by, unbroken}
 
--- axiom i is broken
-abbrev pub broken_at : Schema → State → ℕ → Bool
-broken_at S I i = not (holds I (S.axiom_at i))
+-- a search that finds none ends at n
+first_or_none : (f : ℕ → Bool) (n : ℕ) → cond (any n f) (Some (least n f)) None ≡ cond (eqb (least n f) n) None (Some (least n f))
+first_or_none f n = rw (any_least f n) (pick (dec_lt (least n f) n))
+  where
+    pick : Dec (least n f < n) → cond (ltb (least n f) n) (Some (least n f)) None ≡ cond (eqb (least n f) n) None (Some (least n f))
+    pick (yes l) = rw (lt-ltb (least n f) n l, ne_eqb (least n f) n (omega arith))
+    pick (no h) = rw (le-ltb (least n f) n (omega arith), eq-eqb (least n f) n (omega (arith, least_le f n)))
 
--- A loop of the search that has passed the numbers below i: no test applied, and nothing is found, which n says.
-pub record Passed (test : ℕ → Bool) (i n found : ℕ) : Type 0 where
-  pub none : any i test ≡ false
-  pub kept : found ≡ n
+module _ {s : Signature} {schema state seen : List ℕ} (z : Judged s schema state seen) where
+  pub axiom_named : {i : ℕ} {x : Axiom} → x ≡ (schema_of schema).axiom_at i → i < entries schema_layout schema → AxiomInRange x
+  axiom_named {i} e l = rw e (axiom_in_range schema z.schema_accepted i l)
 
-module _ (test : ℕ → Bool) where
-  pub passed_none : {n found : ℕ} → found ≡ n → Passed test 0 n found
-  passed_none e = record { none = any_zero test; kept = e }
+  pub rises : KindsRise state
+  rises = kinds_rise s state z.state_accepted
 
-  pub passed_more : {i n found next : ℕ} → Passed test i n found → test i ≡ false → next ≡ n → Passed test (i + 1) n next
-  passed_more {i} z e k = record { none = any_still test i z.none e; kept = k }
+  breaks_is : (i : ℕ) → i < entries schema_layout schema → breaks state seen ((schema_of schema).axiom_at i) ≡ not (holds (state_of state) ((schema_of schema).axiom_at i))
+  breaks_is i l =
+      test_same _ _ (λ b. not_of_false _ (false_of _ (λ t. broken_by s state seen z.state_accepted z.index x named b ((holds_iff (state_of state) x).0 t))))
+      (λ t. pick (breaks state seen x) refl t)
+    where
+      x : Axiom
+      x = (schema_of schema).axiom_at i
 
-  pub passed_all : (m : ℕ) {i n found : ℕ} → Passed test i n found → m ≤ i → any m test ≡ false
-  passed_all m {i} z l = none_any test m λ j h. any_none test i z.none j (omega arith)
+      named : AxiomInRange x
+      named = axiom_named refl l
 
--- What the code has read when axiom i is at hand: n axioms, m objects, the axiom x, and how many objects it asks about;
--- no axiom before it is broken.
-pub record AtHand (s : Signature) (schema state seen : List ℕ) (n m i : ℕ) (x : Axiom) (asked : ℕ) : Type 0 where
-  pub judged : Judged s schema state seen
-  pub axioms : n ≡ entries schema_layout schema
-  pub objects : m ≡ objects_of state
-  pub is : x ≡ (schema_of schema).axiom_at i
-  pub asks : asked ≡ objects_asked x m
-  pub here : i < n
-  pub earlier : any i (broken_at (schema_of schema) (state_of state)) ≡ false
+      pick : (b : Bool) → breaks state seen x ≡ b → So (not (holds (state_of state) x)) → So (breaks state seen x)
+      pick true e t = e
+      pick false e t =
+          absurd (not_both (holds (state_of state) x) ((holds_iff (state_of state) x).1 (unbroken s state seen z.state_accepted z.index x named e)) (false_of_not _ t))
 
-module _ (schema state : List ℕ) (n : ℕ) (axioms : n ≡ entries schema_layout schema) where
-  first_is : (i : ℕ) → i ≤ n → any i (broken_at (schema_of schema) (state_of state)) ≡ false → (i < n → So (broken_at (schema_of schema) (state_of state) i)) → i ≡ first_broken (schema_of schema) (state_of state)
-  unfolding schema_of
-  first_is i l e b =
-      sym (least_is (broken_at (schema_of schema) (state_of state)) (entries schema_layout schema) i (rw (← axioms) l) (λ h. b (rw axioms h)) (any_none (broken_at (schema_of schema) (state_of state)) i e))
-
-  pub none_first : any n (broken_at (schema_of schema) (state_of state)) ≡ false → n ≡ first_broken (schema_of schema) (state_of state)
-  none_first e = first_is n (omega arith) e (λ h. absurd (omega arith))
-
-module _ {s : Signature} {schema state seen : List ℕ} {n m i : ℕ} {x : Axiom} {asked : ℕ} (z : AtHand s schema state seen n m i x asked) where
-  pub axiom_named : AxiomInRange x
-  axiom_named = rw z.is (axiom_in_range schema z.judged.schema_accepted i (rw (← z.axioms) z.here))
-
-  broken_first : (Holds (state_of state) x → ⊥) → i ≡ first_broken (schema_of schema) (state_of state)
-  broken_first h =
-      first_is schema state n z.axioms i (le_of_lt z.here) z.earlier
-      (λ _. not_of_false _ (false_of _ (λ t. h (rw z.is ((holds_iff (state_of state) ((schema_of schema).axiom_at i)).0 t)))))
-
-  pub object_inside : (d : ℕ) → d < asked → d < m
-  object_inside d l = objects_asked_few x m d (rw (← z.asks) l)
-
-  pub object_first : (d : ℕ) → d < asked → So (object_breaks seen x d) → i ≡ first_broken (schema_of schema) (state_of state)
-  object_first d l b = broken_first (object_broken s state seen z.judged.state_accepted z.judged.index x axiom_named d (rw (← z.objects) (object_inside d l)) b)
-
-  pub kinds : KindsRise state
-  kinds = kinds_rise s state z.judged.state_accepted
-
-  pub few_facts : entries state_layout state ≤ max_facts
-  few_facts = facts_few state (passes_7 s state z.judged.state_accepted)
-
-  pub pair_first : (f : ℕ) → f < entries state_layout state → So (pair_breaks state seen x f) → i ≡ first_broken (schema_of schema) (state_of state)
-  pair_first f l b = broken_first (pair_broken s state seen z.judged.state_accepted z.judged.index x axiom_named f l b)
-
-  -- the facts before the row that it asks about do not break it
-  pub row_begins : {k from found : ℕ} → k ≡ kind_asked x → KindParts state k from from → found ≡ n → Passed (pair_breaks state seen x) from n found
-  row_begins e p k = record { none = pairs_before state seen x e p; kept = k }
-
-  -- neither an object nor a fact breaks it, as far as it asks about them
-  pub axiom_kept : {k to : ℕ} → any asked (object_breaks seen x) ≡ false → k ≡ kind_asked x → KindParts state (k + 1) to to → any to (pair_breaks state seen x) ≡ false
-      → broken_at (schema_of schema) (state_of state) i ≡ false
-  axiom_kept o e p q =
-      let all = objects_asked_all seen x m (rw (← z.asks) o) in
-      ap not ((holds_iff (state_of state) ((schema_of schema).axiom_at i)).1
-      (subst (Holds (state_of state)) z.is
-      (unbroken s state seen z.judged.state_accepted z.judged.index x axiom_named (rw (← z.objects) all) (pairs_after state seen x e p q))))
+  pub found_first : {n : ℕ} {r : Option ℕ} → n ≡ entries schema_layout schema
+      → r ≡ cond (any n (λ i. breaks state seen ((schema_of schema).axiom_at i))) (Some (least n (λ i. breaks state seen ((schema_of schema).axiom_at i)))) None
+      → r ≡ broken (schema_of schema) (state_of state)
+  unfolding broken schema_of
+  found_first {n} {r} e q =
+      let found : ℕ → Bool = λ i. breaks state seen ((schema_of schema).axiom_at i) in
+      let wanted : ℕ → Bool = λ i. not (holds (state_of state) ((schema_of schema).axiom_at i)) in
+      q
+      ∙ first_or_none found n
+      ∙ ap (λ (k : ℕ). cond (eqb k n) None (Some k)) (least_same found wanted n (λ i l. breaks_is i (rw e at l)))
+      ∙ ap (λ (m : ℕ). cond (eqb (least m wanted) m) None (Some (least m wanted))) e

@@ -1,13 +1,17 @@
-// Whether one object or one fact breaks an axiom. Membership is one look-up in the index of the state.
-ghost use Rattle.std.specs.Prelude.{◌≡◌, ◌<◌, ◌^◌};
-ghost use Rattle.records.specs.Layout.{fact_kinds, max_attributes};
+// Whether some object or some fact breaks an axiom. Membership is one look-up in the index of the state.
+ghost use Rattle.std.specs.Prelude.{◌≡◌, ◌+◌, ◌<◌, ◌^◌};
+ghost use Rattle.records.specs.Layout.{attribute_kinds, fact_kinds, max_classes, max_attributes, right_at, state_layout};
+ghost use Rattle.records.specs.StateRecord.{object_at};
 ghost use Rattle.records.specs.Helpers.InRange.{AxiomInRange};
-ghost use Rattle.legality.specs.Breaks.{seen_at, is_pair, repeats_left, object_breaks, pair_breaks};
+ghost use Rattle.index.specs.Kinds.{KindsRise};
+ghost use Rattle.legality.specs.Breaks.{seen_at, repeats_left, KindRow, breaks};
 
 use index::bits::has;
+use index::kinds::first_of_kind;
 use records::layout::{left, right};
 use records::schema::Axiom;
-use records::state::{ATTRIBUTE_KINDS, OBJECT_PART, kind_at, object_at, state_layout};
+use records::state::{ATTRIBUTE_KINDS, OBJECT_PART, object_at, objects, state_layout};
+use std::ops::Range;
 
 // Some fact is of this kind and object.
 fn member(seen: &[u64], kind: usize, object: usize) -> bool
@@ -17,12 +21,29 @@ fn member(seen: &[u64], kind: usize, object: usize) -> bool
     has(seen, kind * OBJECT_PART + object)
 }
 
-// Fact `f` is a pair of attribute `p`.
-fn is_pair(state: &[u16], p: usize, f: usize) -> bool
-    requires { (p < max_attributes) × (f < 2 ^ 16) }
-    ensures { result ≡ is_pair state.now p f }
+// Where the pairs of attribute `p` stand.
+fn pairs(state: &[u16], p: usize) -> Range<usize>
+    requires { KindsRise state.now × (p < max_attributes) }
+    ensures { KindRow state.now (attribute_kinds + p) result }
 {
-    kind_at(state, f) == ATTRIBUTE_KINDS + p
+    let kind = ATTRIBUTE_KINDS + p;
+    first_of_kind(state, kind)..first_of_kind(state, kind + 1)
+}
+
+// The first object of fact `f` is in class `a`.
+fn first_in(state: &[u16], seen: &[u64], a: usize, f: usize) -> bool
+    requires { (a < max_classes) × (f < 2 ^ 16) }
+    ensures { result ≡ seen_at seen.now a (object_at state.now f) }
+{
+    member(seen, a, object_at(state, f))
+}
+
+// The second object of a pair is in class `b`.
+fn second_in(state: &[u16], seen: &[u64], b: usize, f: usize) -> bool
+    requires { (b < max_classes) × (f < 2 ^ 16) }
+    ensures { result ≡ seen_at seen.now b (right_at state_layout state.now f) }
+{
+    member(seen, b, right(state_layout(), state, f))
 }
 
 // The fact before has the same left word: of a pair, the same attribute and first object.
@@ -30,37 +51,29 @@ fn repeats_left(state: &[u16], f: usize) -> bool
     requires { f < 2 ^ 16 }
     ensures { result ≡ repeats_left state.now f }
 {
-    if f == 0 {
-        return false;
-    }
-    left(state_layout(), state, f - 1) == left(state_layout(), state, f)
+    0 < f && left(state_layout(), state, f - 1) == left(state_layout(), state, f)
 }
 
-pub fn object_breaks(x: Axiom, seen: &[u64], d: usize) -> bool
-    requires { AxiomInRange x × (d < 2 ^ 16) }
-    ensures { result ≡ object_breaks seen.now x d }
+// Objects are only walked for an axiom of classes or of a necessary value, and of the facts those of the axiom's attribute.
+pub fn breaks(x: Axiom, state: &[u16], seen: &[u64]) -> bool
+    requires { AxiomInRange x × KindsRise state.now }
+    ensures { result ≡ breaks state.now seen.now x }
 {
     match x {
-        Axiom::Subclass(a, b) => member(seen, a, d) & !member(seen, b, d),
-        Axiom::Typing(_, _, _) => false,
-        Axiom::Necessary(a, p) => member(seen, a, d) & !member(seen, ATTRIBUTE_KINDS + p, d),
-        Axiom::Single(_, _) => false,
-        Axiom::Relates(_, _, _) => false,
-    }
-}
-
-pub fn pair_breaks(x: Axiom, state: &[u16], seen: &[u64], f: usize) -> bool
-    requires { AxiomInRange x × (f < 2 ^ 16) }
-    ensures { result ≡ pair_breaks state.now seen.now x f }
-{
-    let d = object_at(state, f);
-    let e = right(state_layout(), state, f);
-    match x {
-        Axiom::Subclass(_, _) => false,
-        Axiom::Typing(a, p, b) => is_pair(state, p, f) & member(seen, a, d) & !member(seen, b, e),
-        Axiom::Necessary(_, _) => false,
-        Axiom::Single(a, p) => is_pair(state, p, f) & member(seen, a, d) & repeats_left(state, f),
-        Axiom::Relates(p, a, b) => is_pair(state, p, f)
-            & !(member(seen, a, d) & member(seen, b, e)),
+        Axiom::Subclass(a, b) => {
+            (0..objects(state)).any(|d| member(seen, a, d) && !member(seen, b, d))
+        }
+        Axiom::Necessary(a, p) => {
+            (0..objects(state)).any(|d| member(seen, a, d) && !member(seen, ATTRIBUTE_KINDS + p, d))
+        }
+        Axiom::Typing(a, p, b) => {
+            pairs(state, p).any(|f| first_in(state, seen, a, f) && !second_in(state, seen, b, f))
+        }
+        Axiom::Single(a, p) => {
+            pairs(state, p).any(|f| first_in(state, seen, a, f) && repeats_left(state, f))
+        }
+        Axiom::Relates(p, a, b) => {
+            pairs(state, p).any(|f| !(first_in(state, seen, a, f) && second_in(state, seen, b, f)))
+        }
     }
 }

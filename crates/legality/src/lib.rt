@@ -3,48 +3,26 @@
 #![tactic(auto)]
 
 ghost use Rattle.std.specs.Prelude.{◌≡◌};
-ghost use Rattle.records.specs.Executable.{first_broken};
+ghost use Rattle.records.specs.Executable.{broken};
 ghost use Rattle.records.specs.SchemaRecord.{schema_of};
 ghost use Rattle.records.specs.StateRecord.{state_of};
 ghost use Rattle.legality.specs.Legality.{Judged};
 
-use asked::{kind_asked, objects_asked};
-use breaks::{object_breaks, pair_breaks};
-use index::kinds::first_of_kind;
+use breaks::breaks;
 use index::left::TABLE_WORDS;
 use records::schema::{Signature, axiom_at, axioms};
-use records::state::objects;
 
-mod asked;
 mod breaks;
 
-// The number of axioms where none is broken. The signature is that under which the state was accepted; only the contract
-// asks for it.
-pub fn first_broken(s: Signature, schema: &[u16], state: &[u16], seen: &[u64; TABLE_WORDS]) -> usize
+// The signature is that under which the state was accepted; only the contract asks for it.
+pub fn first_broken(
+    s: Signature,
+    schema: &[u16],
+    state: &[u16],
+    seen: &[u64; TABLE_WORDS],
+) -> Option<usize>
     requires { Judged s schema.now state.now seen.now }
-    ensures { result ≡ first_broken (schema_of schema.now) (state_of state.now) }
+    ensures { result ≡ broken (schema_of schema.now) (state_of state.now) }
 {
-    let n = axioms(schema);
-    let objects = objects(state);
-    let mut found = n;
-    'search: for i in 0..n {
-        let a = axiom_at(schema, i);
-        let asked = objects_asked(a, objects);
-        for d in 0..asked {
-            if object_breaks(a, seen, d) {
-                found = i;
-                break 'search;
-            }
-        }
-        let kind = kind_asked(a);
-        let from = first_of_kind(state, kind);
-        let to = first_of_kind(state, kind + 1);
-        for f in from..to {
-            if pair_breaks(a, state, seen, f) {
-                found = i;
-                break 'search;
-            }
-        }
-    }
-    found
+    (0..axioms(schema)).find(|i| breaks(axiom_at(schema, *i), state, seen))
 }

@@ -1,53 +1,44 @@
--- What the shared check of the two counts of links gives its callers: the refusal that ends the call, or accepted records.
+-- What the shared check of the two counts of links asks, by the record of the schema; and what an accepted check gives its callers:
+-- accepted records, and an attribute that is declared.
 use Prim.Native.Nat.{ℕ}
-use mathlib.Core.Bool.{Bool, true, false, cond, false≢true}
 use mathlib.Core.List.{List}
-use mathlib.Core.Path.{◌≡◌, refl, ap}
+use mathlib.Core.Path.{◌≡◌, refl}
 use native.Mathlib.Omega.{arith}
-use borrow.Author.Tests.{eqb-true}
-use lib.Dec.{eqb}
+use Rattle.std.specs.Prelude.{Option, Some, None, Result, Ok, Err}
+use Rattle.std.proofs.lemmas.Grind.{common_steps}
 use Rattle.records.specs.declared.schema.Signature.{Signature}
+use Rattle.records.specs.declared.named.Named.{Named}
+use Rattle.records.specs.declared.refusal.Refusal.{Refusal}
+use Rattle.records.specs.Layout.{query_steps, no_marks}
+use Rattle.records.specs.Marks.{allowing}
 use Rattle.records.specs.SchemaRecord.{signature_of}
-use Rattle.records.specs.Outcome.{first_refusal, outcome}
+use Rattle.records.specs.SchemaRefusal.{schema_answer}
+use Rattle.records.specs.ConceptRefusal.{concept_answer}
+use Rattle.records.specs.StateRefusal.{state_answer}
+use Rattle.records.specs.Outcome.{first_refusal, refused_or, outcome}
 use Rattle.records.proofs.AcceptedLaws.{passes_1, signature_few}
-use Rattle.records.proofs.OutcomeLaws.{Passed, first_passed, answered_at, passed_schema, passed_plain, passed_state, passed_attribute}
-use Rattle.links.specs.declared.LinksAnswer.{LinksAnswer}
-use Rattle.links.specs.declared.LinksAnswer.TheVariants.{Refused}
-use Rattle.links.specs.declared.Checked.TheVariants as check
+use Rattle.records.proofs.OutcomeLaws.{Passed, first_passed, schema_signature, passed_schema, passed_concept, passed_record, passed_attribute}
 use Rattle.links.specs.Links.{links_refusals, checked, Countable}
 
-module _ (schema concept state : List ℕ) (P : ℕ) where
-  abbrev numbers : List ℕ
-  numbers = links_refusals schema concept state P
+-- an accepted schema's signature allows no mark
+pub declared_by : (schema : List ℕ) {s : Signature} → schema_answer schema ≡ Ok s → (s ≡ signature_of schema) × (allowing no_marks s ≡ signature_of schema)
+unfolding signature_of
+declared_by schema e = let same = (schema_signature schema e).0 in (same, rw same refl)
 
-  pub turned : {n : ℕ} → check.Refused n ≡ checked schema concept state P → (answer : LinksAnswer) → Refused n ≡ outcome Refused numbers answer
-  unfolding outcome
-  turned {n} e answer = pick (eqb (first_refusal numbers) 0) e
-    where
-      pick : (b : Bool) → check.Refused n ≡ cond b (check.Accepted (signature_of schema)) (check.Refused (first_refusal numbers))
-          → Refused n ≡ cond b answer (Refused (first_refusal numbers))
-      pick true e = absurd (false≢true cc)
-      pick false e = let q : n ≡ first_refusal numbers = cc in ap Refused q
+answered : {A : Type 0} (refusals : List (Option Refusal)) {x y : A} → outcome Err refusals (Ok x) ≡ Ok y → Passed refusals × (y ≡ x)
+unfolding outcome
+answered refusals {x} {y} e = pick (first_refusal refusals) refl e
+  where
+    pick : (o : Option Refusal) → first_refusal refusals ≡ o → refused_or Err (Ok x) o ≡ Ok y → Passed refusals × (y ≡ x)
+    pick None q e = (first_passed refusals q, cc)
+    pick (Some r) q e = absurd (grind (arith, common_steps))
 
-  module _ {s : Signature} (e : check.Accepted s ≡ checked schema concept state P) where
-    passed : Passed numbers × (s ≡ signature_of schema)
-    unfolding outcome
-    passed = pick (eqb (first_refusal numbers) 0) refl e
-      where
-        pick : (b : Bool) → eqb (first_refusal numbers) 0 ≡ b → check.Accepted s ≡ cond b (check.Accepted (signature_of schema)) (check.Refused (first_refusal numbers))
-            → Passed numbers × (s ≡ signature_of schema)
-        pick true q e = (first_passed numbers (eqb-true _ _ q), cc)
-        pick false q e = absurd (false≢true cc)
-
-    pub answered : (answer : LinksAnswer) → answer ≡ outcome Refused numbers answer
-    answered answer = answered_at Refused answer numbers passed.0
-
-    pub countable : Countable s concept state P
-    countable =
-        let p = passed.0 in
-        rw passed.1
-        (record {
-          concept_accepted = passed_plain schema concept p.1.0;
-          state_accepted = passed_state schema state p.1.1.0;
-          attribute = omega (arith, passed_attribute schema P p.1.1.1.0, (signature_few schema (passes_1 schema (passed_schema schema p.0))).1);
-        })
+pub countable : (schema concept state : List ℕ) (P : ℕ) {s : Signature} → checked schema concept state P ≡ Ok s → Countable s concept state P
+countable schema concept state P e =
+    let (p, q) = answered (links_refusals schema concept state P) e in
+    rw q
+    (record {
+      concept_accepted = passed_concept _ _ concept p.1.0;
+      state_accepted = passed_record _ state p.1.1.0;
+      attribute = omega (arith, passed_attribute schema P p.1.1.1.0, (signature_few schema (passes_1 schema (passed_schema schema p.0))).1);
+    })

@@ -1,25 +1,38 @@
 -- One pass over the facts of a kind: the links so far, and the counts so far for each second object. Facts before the row of the
 -- kind and after it are no links.
-use Prim.Native.Nat.{ℕ, ◌+◌, ◌≤◌, ◌<◌}
+use Prim.Native.Nat.{ℕ, zero, suc, ◌+◌, ◌-◌, ◌*◌, ◌^◌, ◌≤◌, ◌<◌}
 use mathlib.Core.Bool.{Bool, So, ◌&&◌, and-true, and-false}
 use mathlib.Core.List.{List}
-use mathlib.Core.Path.{◌≡◌, sym, ◌∙◌}
-use native.Mathlib.Decide.{ℕ_discrete}
+use mathlib.Core.Path.{◌≡◌, refl, sym, ap, ◌∙◌}
+use native.Mathlib.Decide.{ℕ_discrete, dec_le}
 use native.Mathlib.Numerals.{add-one}
+use native.Mathlib.Omega.{arith}
 use borrow.Author.Tests.{eq-eqb, ne_eqb, eqb-true}
 use mir.Val.{bool_byte}
 use lib.Dec.{eqb}
-use lib.ListN.{get_or, set, length-set, replicate, length-replicate, get_or-replicate}
-use lib.Seq.{get_or-set_same, get_or-set_other}
-use Rattle.records.specs.Finite.{count}
+use lib.ListN.{length, take, get_or, set, length-set, replicate, length-replicate, get_or-replicate}
+use lib.Seq.{length-take-le, get_or-set_same, get_or-set_other}
+use Rattle.std.proofs.lemmas.List.{get_or-take}
+use Rattle.records.specs.declared.layout.Layout.{Layout}
+use Rattle.records.specs.Helpers.Word.{IsWord, IsLayout}
+use Rattle.records.specs.Finite.{count, sum}
 use Rattle.records.specs.Layout.{state_layout, entries, right_at, max_objects}
 use Rattle.records.specs.StateRecord.{kind_at, object_at}
 use Rattle.records.proofs.General.BoolLaws.{and_left}
-use Rattle.records.proofs.General.FiniteLaws.{count_turn, count_still, count_le}
+use Rattle.records.proofs.General.FiniteLaws.{count_turn, count_still, count_le, count_same, none_count}
+use Rattle.records.proofs.General.SumLaws.{sum_same}
+use Rattle.records.proofs.General.TableLaws.{count_add}
 use Rattle.index.specs.BitSet.{bit_at}
 use Rattle.index.specs.Kinds.{KindParts}
 use Rattle.index.proofs.KindLaws.{count_before, count_after, kind_within}
-use Rattle.links.specs.Counts.{link_at, Tallied}
+use Rattle.links.specs.Counts.{link_at, Tallied, Walkable}
+
+-- the second object of a fact of the kind
+pub second_is : (w : List ℕ) (i : ℕ) {o : ℕ} {layout : Layout} → IsLayout state_layout layout → IsWord (right_at layout w i) o → o ≡ right_at state_layout w i
+second_is w i l x = rw l.value at x.value
+
+pub second_few : {w : List ℕ} {k to i o : ℕ} → Walkable w k → KindParts w (k + 1) to to → i < to → o ≡ right_at state_layout w i → o < max_objects
+second_few {i = i} walk q h e = rw e (walk.inside i (omega (arith, h, q.within)))
 
 module _ (w : List ℕ) (k : ℕ) (chosen : List ℕ) where
   link_kind : (i : ℕ) → So (link_at w k chosen i) → kind_at w i ≡ k
@@ -31,15 +44,24 @@ module _ (w : List ℕ) (k : ℕ) (chosen : List ℕ) where
       → b ≡ link_at w k chosen i
   link_here {i = i} f t a l q = q ∙ rw (eq-eqb (kind_at w i) k (kind_within w f t i a l))
 
-  pub links_none : {from : ℕ} → KindParts w k from from → 0 ≡ count from (link_at w k chosen)
-  links_none p = sym (count_before w (link_at w k chosen) link_kind p)
+  -- all links stand in the row of the kind
+  pub links_between : {from to : ℕ} → KindParts w k from from → KindParts w (k + 1) to to
+      → count (to - from) (λ i. bit_at chosen (object_at w (from + i))) ≡ count (entries state_layout w) (link_at w k chosen)
+  links_between {from} {to} p q = pick (dec_le from to)
+    where
+      all : {i : ℕ} → to ≤ i → i ≤ entries state_layout w → count (entries state_layout w) (link_at w k chosen) ≡ count i (link_at w k chosen)
+      all h l = count_after w (link_at w k chosen) link_kind q h l
 
-  pub links_few : {i links : ℕ} → links ≡ count i (link_at w k chosen) → links ≤ i
-  links_few {i} e = rw e (count_le (link_at w k chosen) i)
-
-  pub links_all : {to i : ℕ} → KindParts w (k + 1) to to → to ≤ i → i ≤ entries state_layout w
-      → count i (link_at w k chosen) ≡ count (entries state_layout w) (link_at w k chosen)
-  links_all p h l = sym (count_after w (link_at w k chosen) link_kind p h l)
+      pick : Dec (from ≤ to) → count (to - from) (λ i. bit_at chosen (object_at w (from + i))) ≡ count (entries state_layout w) (link_at w k chosen)
+      pick (yes h) =
+          let e : from + (to - from) ≡ to = omega arith in
+          count_same (λ i. bit_at chosen (object_at w (from + i))) (λ i. link_at w k chosen (from + i)) (to - from) (λ i l. link_here p q (omega arith) (omega arith) refl)
+          ∙ omega (arith, count_add (link_at w k chosen) from (to - from), count_before w (link_at w k chosen) link_kind p, ap (λ (n : ℕ). count n (link_at w k chosen)) e, all (omega arith) q.within)
+      pick (no n) =
+          let e : to - from ≡ 0 = omega arith in
+          ap (λ (n : ℕ). count n (λ i. bit_at chosen (object_at w (from + i)))) e
+          ∙ none_count _ 0 (λ i l. absurd (omega arith))
+          ∙ sym (all (omega arith) p.within ∙ count_before w (link_at w k chosen) link_kind p)
 
   -- links to one second object
   abbrev to_second : ℕ → ℕ → Bool
@@ -77,3 +99,13 @@ module _ (w : List ℕ) (k : ℕ) (chosen : List ℕ) where
   pub tallied_all : {to i : ℕ} {counts : List ℕ} → Tallied w k chosen i counts → KindParts w (k + 1) to to → to ≤ i → i ≤ entries state_layout w
       → Tallied w k chosen (entries state_layout w) counts
   tallied_all z p h l = record { size = z.size; each = λ e m. z.each e m ∙ sym (count_after w (to_second e) (second_kind e) p h l) }
+
+-- Counts that are added up.
+
+pub sum_taken : (l : List ℕ) (n : ℕ) → n ≤ length l → sum (length (take n l)) (λ e. get_or (take n l) e 0) ≡ sum n (λ e. get_or l e 0)
+sum_taken l n h = ap (λ (m : ℕ). sum m (λ e. get_or (take n l) e 0)) (length-take-le n l h) ∙ sum_same _ _ n (λ e k. get_or-take n l e 0 k)
+
+pub sum_few : (f : ℕ → ℕ) (n : ℕ) → ((e : ℕ) → f e < 2 ^ 16) → sum n f ≤ n * 2 ^ 16
+unfolding sum
+sum_few f zero h = omega arith
+sum_few f (suc n) h = omega (arith, sum_few f n h, h n)

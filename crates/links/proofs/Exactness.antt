@@ -6,6 +6,7 @@ use mathlib.Core.List.{List}
 use mathlib.Core.Path.{◌≡◌, sym, ap, ap₂, subst, ◌∙◌}
 use native.Mathlib.Nat.{mod-lt, div-lt_iff_lt-mul, div-add-mod', zero-mul}
 use native.Mathlib.Omega.{arith}
+use Rattle.std.specs.Prelude.{Ok, Err}
 use Rattle.records.specs.Finite.{count}
 use Rattle.records.specs.State.{State}
 use Rattle.records.specs.Concept.{Concept}
@@ -17,7 +18,6 @@ use Rattle.records.proofs.General.CountLaws.{pick, pick_is, count_lt, count_inje
 use Rattle.records.proofs.General.TableLaws.{cell_row, cell_column, cell_inside, count_cells}
 use Rattle.records.proofs.ExecutableLaws.{is_in_iff}
 use Rattle.records.proofs.OutcomeLaws.{outcome_refused, outcome_answered}
-use Rattle.links.specs.declared.LinksAnswer.TheVariants.{Counted, Refused}
 use Rattle.links.specs.Links.{links_by_first, links_refusals, by_first_answer, by_second_answer}
 use Rattle.links.specs.Exact.{Link, Numbered, LinksExact}
 use Rattle.links.proofs.LinkLaws.{by_rows, answers_agree}
@@ -88,11 +88,12 @@ module _ (I : State) (C : Concept) (P : ℕ) where
 module _ (schema concept state : List ℕ) (P : ℕ) where
   pub by_first_exact : LinksExact schema concept state P (by_first_answer schema concept state P)
   by_first_exact =
+      let n = links_by_first (state_of state) (concept_of concept) P in
       record {
-        refused = outcome_refused Refused (Counted (links_by_first (state_of state) (concept_of concept) P)) (links_refusals schema concept state P);
+        refused = λ r. outcome_refused Err (Ok n) (links_refusals schema concept state P);
         answered = λ z. (
-          links_by_first (state_of state) (concept_of concept) P,
-          outcome_answered Refused (Counted (links_by_first (state_of state) (concept_of concept) P)) (links_refusals schema concept state P) z,
+          n,
+          outcome_answered Err (Ok n) (links_refusals schema concept state P) z,
           numbered (state_of state) (concept_of concept) P,
         );
       }

@@ -6,6 +6,9 @@ use mathlib.Core.Bool.{Bool, ◌||◌, ◌&&◌}
 use mathlib.Core.List.{List, [], ◌∷◌}
 use mathlib.Core.Path.{◌≡◌, refl}
 use lib.Dec.{eqb}
+use Rattle.std.specs.Prelude.{Result, Ok, Err}
+use Rattle.records.specs.declared.refusal.Refusal.{Refusal}
+use Rattle.records.specs.declared.refusal.Refusal.TheVariants as refusal
 use Rattle.records.specs.Finite.{any, count, sum, least}
 use Rattle.records.specs.State.{State, repeats}
 use Rattle.records.specs.Concept.{class}
@@ -20,8 +23,6 @@ use Rattle.records.specs.StateRefusal.{refusal_7, faulty_fact, refusal_8, ascend
 use Rattle.records.specs.Outcome.{refusal_12, first_refusal, outcome}
 use Rattle.records.specs.Encoding.{record_of, schema_record, concept_record, steps_in, class_facts_in, state_record}
 use Rattle.records.proofs.Examples.{schema_x, state_s, empty_state}
-use Rattle.links.specs.declared.LinksAnswer.{LinksAnswer}
-use Rattle.links.specs.declared.LinksAnswer.TheVariants.{Counted, Refused}
 use Rattle.links.specs.Links.{links_by_first, links_by_second, by_first_answer, by_second_answer}
 
 abbrev pair : ℕ → ℕ → ℕ → ℕ → Bool
@@ -42,11 +43,11 @@ unfolding links_by_first links_by_second sum count
 sheet_counts = (refl, refl)
 
 -- by class, a concept of one token
-abbrev answers : ℕ → List ℕ → ℕ → LinksAnswer × LinksAnswer
+abbrev answers : ℕ → List ℕ → ℕ → Result ℕ Refusal × Result ℕ Refusal
 answers A state P = (by_first_answer schema_x (concept_record ((1, A) ∷ [])) state P, by_second_answer schema_x (concept_record ((1, A) ∷ [])) state P)
 
-pub persons_straps : (answers 1 state_s 0 ≡ (Counted 2, Counted 2)) × (answers 0 state_s 0 ≡ (Counted 0, Counted 0))
-    × (answers 1 state_s 1 ≡ (Refused 12, Refused 12)) × (answers 1 empty_state 1 ≡ (Refused 10, Refused 10))
+pub persons_straps : (answers 1 state_s 0 ≡ (Ok 2, Ok 2)) × (answers 0 state_s 0 ≡ (Ok 0, Ok 0))
+    × (answers 1 state_s 1 ≡ (Err refusal.Attribute, Err refusal.Attribute)) × (answers 1 empty_state 1 ≡ (Err refusal.StateNames, Err refusal.StateNames))
 unfolding
     links_by_first links_by_second sum outcome first_refusal refusal_12
     repeats any count least

@@ -4,6 +4,7 @@ use Prim.Native.Nat.{ℕ}
 use mathlib.Core.Bool.{Bool, true, false, cond, ◌&&◌}
 use mathlib.Core.List.{List}
 use mathlib.Core.Path.{◌≡◌, refl, sym, ap, ◌∙◌}
+use Rattle.std.specs.Prelude.{Ok, Err}
 use Rattle.records.specs.Finite.{count, sum}
 use Rattle.records.specs.State.{State}
 use Rattle.records.specs.Concept.{Concept}
@@ -13,7 +14,6 @@ use Rattle.records.specs.StateRecord.{state_of}
 use Rattle.records.specs.Outcome.{outcome}
 use Rattle.records.proofs.General.FiniteLaws.{none_count}
 use Rattle.records.proofs.General.SumLaws.{sum_same, count_swap}
-use Rattle.links.specs.declared.LinksAnswer.TheVariants.{Counted, Refused}
 use Rattle.links.specs.Links.{links_by_first, links_by_second, links_refusals, by_first_answer, by_second_answer}
 
 -- counted only under a condition
@@ -34,4 +34,4 @@ module _ (I : State) (C : Concept) (P : ℕ) where
 
 pub answers_agree : (schema concept state : List ℕ) (P : ℕ) → by_first_answer schema concept state P ≡ by_second_answer schema concept state P
 answers_agree schema concept state P =
-    ap (λ (n : ℕ). outcome Refused (links_refusals schema concept state P) (Counted n)) (links_agree (state_of state) (concept_of concept) P)
+    ap (λ (n : ℕ). outcome Err (links_refusals schema concept state P) (Ok n)) (links_agree (state_of state) (concept_of concept) P)

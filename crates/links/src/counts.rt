@@ -1,5 +1,5 @@
 // One pass over the facts of a kind: how many have their object in a set, in all or for each second object.
-ghost use Rattle.std.specs.Prelude.{◌≡◌, ◌≤◌, ◌<◌, get_or};
+ghost use Rattle.std.specs.Prelude.{◌≡◌, ◌≤◌, ◌<◌, length, get_or};
 ghost use Rattle.records.specs.Finite.{count, sum};
 ghost use Rattle.records.specs.Layout.{state_layout, entries, max_objects, max_facts};
 ghost use Rattle.records.specs.StateRecord.{object_at};
@@ -8,7 +8,7 @@ ghost use Rattle.links.specs.Counts.{Walkable, link_at, Tallied};
 
 use index::bits::has;
 use index::kinds::first_of_kind;
-use records::layout::{right, word};
+use records::layout::right;
 use records::state::{MAX_OBJECTS, object_at, state_layout};
 use rows::sizes::SET_WORDS;
 
@@ -27,11 +27,7 @@ pub fn count_links(state: &[u16], kind: usize, set: &[u64; SET_WORDS]) -> usize
 {
     let from = first_of_kind(state, kind);
     let to = first_of_kind(state, kind + 1);
-    let mut links = 0;
-    for i in from..to {
-        links += is_link(state, set, i) as usize;
-    }
-    links
+    (from..to).filter(|i| is_link(state, set, *i)).count()
 }
 
 // The same facts, with a count for each second object.
@@ -44,19 +40,15 @@ pub fn tally(state: &[u16], kind: usize, set: &[u64; SET_WORDS]) -> [u16; MAX_OB
     let mut counts = [0u16; MAX_OBJECTS];
     for i in from..to {
         let second = right(state_layout(), state, i);
-        counts[second] = counts[second] + is_link(state, set, i) as u16;
+        counts[second] += u16::from(is_link(state, set, i));
     }
     counts
 }
 
 // The first `n` counts together.
-pub fn total(counts: &[u16], n: usize) -> usize
+pub fn total(counts: &[u16; MAX_OBJECTS], n: usize) -> usize
     requires { n ≤ max_objects }
     ensures { result ≡ sum n (λ e. get_or counts.now e 0) }
 {
-    let mut links = 0;
-    for e in 0..n {
-        links += word(counts, e);
-    }
-    links
+    counts[..n].iter().map(|links| usize::from(*links)).sum()
 }

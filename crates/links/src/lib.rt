@@ -2,71 +2,42 @@
 // object, the strap room by second object.
 #![tactic(auto)]
 
-ghost use Rattle.std.specs.Prelude.{◌≡◌, [], ◌∷◌};
+ghost use Rattle.std.specs.Prelude.{◌≡◌};
 ghost use Rattle.records.specs.ConceptRecord.{concept_of};
 ghost use Rattle.records.specs.StateRecord.{state_of};
-ghost use Rattle.records.specs.Outcome.{attribute_number, first_refusal};
 ghost use Rattle.links.specs.Links.{links_by_first, links_by_second, by_first_answer, by_second_answer, checked, Countable};
 
 use crate::counts::{count_links, tally, total};
-use check_concept::check_plain;
+use check_concept::check_concept;
 use check_schema::check_schema;
 use check_state::check_state;
-use records::concept::ConceptAnswer;
-use records::layout::wide;
-use records::schema::{SchemaAnswer, Signature};
+use records::concept::Plain;
+use records::refusal::Refusal;
+use records::schema::Signature;
 use records::state::{ATTRIBUTE_KINDS, objects};
 
 mod counts;
 
-#[derive(Clone, Copy)]
-pub enum LinksAnswer {
-    // How many links there are.
-    Counted(usize),
-    // The number of the first refusal that applies.
-    Refused(u16),
-}
-
-// What both counts check before they begin.
-#[derive(Clone, Copy)]
-enum Checked {
-    Accepted(Signature),
-    Refused(u16),
-}
-
-// Refusal 12, or 0.
-fn attribute_number(s: Signature, attribute: usize) -> u16
-    ensures { result ≡ attribute_number s attribute }
-{
-    if s.attributes <= attribute { 12 } else { 0 }
-}
-
-// The first of two numbers that is not 0.
-fn first_refusal(earlier: u16, later: u16) -> u16
-    ensures { result ≡ first_refusal (earlier ∷ later ∷ []) }
-{
-    if earlier == 0 { later } else { earlier }
-}
-
-fn check(schema: &[u16], concept: &[u16], state: &[u16], attribute: usize) -> Checked
+// What both counts check before they begin; the state's refusals come before the attribute's.
+#[tactic(auto,
+    using(std::proofs::lemmas::Grind::common_steps, crate::proofs::CheckedLaws::declared_by),
+    unfolding(records::specs::Outcome::outcome, records::specs::Outcome::first_refusal, records::specs::Outcome::refusal_12)
+)]
+fn check(
+    schema: &[u16],
+    concept: &[u16],
+    state: &[u16],
+    attribute: usize,
+) -> Result<Signature, Refusal>
     ensures { result ≡ checked schema.now concept.now state.now attribute }
 {
-    let declared = check_schema(schema);
-    let SchemaAnswer::Accepted(s) = declared else {
-        return Checked::Refused(declared.number());
-    };
-    let read = check_plain(s, concept);
-    let ConceptAnswer::Accepted(_) = read else {
-        return Checked::Refused(read.number());
-    };
-    let judged = check_state(s, state);
-    // The state's refusals come before the attribute's.
-    let number = first_refusal(judged.number(), attribute_number(s, attribute));
-    if number == 0 {
-        Checked::Accepted(s)
-    } else {
-        Checked::Refused(number)
+    let s = check_schema(schema)?;
+    check_concept::<Plain>(s, concept)?;
+    check_state(s, state)?;
+    if s.attributes <= attribute {
+        return Err(Refusal::Attribute);
     }
+    Ok(s)
 }
 
 fn count_by_first(s: Signature, concept: &[u16], state: &[u16], attribute: usize) -> usize
@@ -87,23 +58,37 @@ fn count_by_second(s: Signature, concept: &[u16], state: &[u16], attribute: usiz
 }
 
 // For each selected object, how many values of the attribute it has, summed.
-pub fn by_first(schema: &[u16], concept: &[u16], state: &[u16], attribute: u16) -> LinksAnswer
+#[tactic(auto,
+    using(crate::proofs::CheckedLaws::countable),
+    unfolding(records::specs::Outcome::outcome, records::specs::Outcome::first_refusal)
+)]
+pub fn by_first(
+    schema: &[u16],
+    concept: &[u16],
+    state: &[u16],
+    attribute: u16,
+) -> Result<usize, Refusal>
     ensures { result ≡ by_first_answer schema.now concept.now state.now attribute }
 {
-    let p = wide(attribute);
-    match check(schema, concept, state, p) {
-        Checked::Accepted(s) => LinksAnswer::Counted(count_by_first(s, concept, state, p)),
-        Checked::Refused(number) => LinksAnswer::Refused(number),
-    }
+    let p = usize::from(attribute);
+    let s = check(schema, concept, state, p)?;
+    Ok(count_by_first(s, concept, state, p))
 }
 
 // For each object, how many selected objects have it as a value of the attribute, summed.
-pub fn by_second(schema: &[u16], concept: &[u16], state: &[u16], attribute: u16) -> LinksAnswer
+#[tactic(auto,
+    using(crate::proofs::CheckedLaws::countable),
+    unfolding(records::specs::Outcome::outcome, records::specs::Outcome::first_refusal)
+)]
+pub fn by_second(
+    schema: &[u16],
+    concept: &[u16],
+    state: &[u16],
+    attribute: u16,
+) -> Result<usize, Refusal>
     ensures { result ≡ by_second_answer schema.now concept.now state.now attribute }
 {
-    let p = wide(attribute);
-    match check(schema, concept, state, p) {
-        Checked::Accepted(s) => LinksAnswer::Counted(count_by_second(s, concept, state, p)),
-        Checked::Refused(number) => LinksAnswer::Refused(number),
-    }
+    let p = usize::from(attribute);
+    let s = check(schema, concept, state, p)?;
+    Ok(count_by_second(s, concept, state, p))
 }

@@ -1,9 +1,8 @@
 -- What stands before the present place is flagged and counted.
 use Rattle.judge.proofs.FlagLaws.{flags_more, flags_none}
 use lib.ListN.{length-set}
-use mathlib.Core.Path.{◌≡◌, refl}
+use mathlib.Core.Path.{refl}
 use native.Mathlib.Omega.{arith}
-use native.Mathlib.Nat.{le_antisymm}
 use Rattle.records.specs.Finite.{count}
 use Rattle.records.proofs.General.FiniteLaws.{count_le, count_turn}
 use Rattle.records.proofs.General.BoolLaws.{byte_small}
@@ -14,23 +13,15 @@ pub loop-i-init : goal.loop-i-init
 unfolding count
 loop-i-init c = (omega arith, refl, refl, flags_none _ _)
 
-pub bounds-lent-i : goal.bounds-lent-i
-bounds-lent-i c = omega (arith, c.loop-i.invariant.1, c.requires)
-
 pub overflow_add-found : goal.overflow_add-found
-overflow_add-found c = omega (arith, count_le (bit_at c.args.set.now) c.loop-i.i, c.loop-i.invariant.2, byte_small c.has-here.result)
+overflow_add-found c =
+    omega (arith, count_le (bit_at c.args.set.now) c.loop-i.i, c.loop-i.invariant.2, c.from-found.ensures, byte_small c.has-here.result)
 
 pub loop-i-preserved : goal.loop-i-preserved
-loop-i-preserved c = (
-  omega arith,
-  simp length-set c.loop-i.invariant.1,
-  count_turn (bit_at c.args.set.now) c.loop-i.i _ c.has-here.result c.loop-i.invariant.2 c.has-here.ensures,
-  flags_more (bit_at c.args.set.now) _ _ c.loop-i.i c.loop-i.invariant.3 (omega (arith, c.requires)) c.has-here.result c.has-here.ensures,
-)
-
-pub shape_of-lent : goal.shape_of-lent
-shape_of-lent c = c.loop-i.invariant.1
-
-pub returns : goal.returns
-returns c = let e : c.loop-i.i ≡ c.args.n = le_antisymm c.loop-i.invariant.0 c.loop-i-test.false in
-    record { count = rw e at c.loop-i.invariant.2; words = rw e at c.loop-i.invariant.3 }
+loop-i-preserved c =
+    rw (c.from.ensures, c.from-found.ensures) (
+      omega arith,
+      simp length-set c.loop-i.invariant.1,
+      count_turn (bit_at c.args.set.now) c.loop-i.i _ c.has-here.result c.loop-i.invariant.2 c.has-here.ensures,
+      flags_more (bit_at c.args.set.now) _ _ c.loop-i.i c.loop-i.invariant.3 (omega (arith, c.requires)) c.has-here.result c.has-here.ensures,
+    )

@@ -1,37 +1,19 @@
--- The links among the facts passed are counted; before the row of the kind and after it there are none.
-use mathlib.Core.Path.{◌∙◌}
-use native.Mathlib.Omega.{arith}
-use Rattle.records.proofs.General.FiniteLaws.{count_turn}
-use Rattle.records.proofs.General.BoolLaws.{byte_small}
-use Rattle.links.specs.Counts.{link_at}
-use Rattle.links.proofs.CountLaws.{link_here, links_none, links_few, links_all}
+-- The facts of the row of the kind whose object is in the set are the links.
+use Prim.Native.Nat.{ℕ}
+use mathlib.Core.Path.{refl, ◌∙◌}
+use Rattle.std.proofs.Common.{rules}
+use Rattle.std.proofs.lemmas.Iterator.{YieldsList-from_range}
+use Rattle.std.proofs.lemmas.Iterator.Consumers.{YieldsList-from_filter, count_from_yields_List}
+use Rattle.std.proofs.lemmas.List.Sums.{length-filter}
+use Rattle.records.specs.StateRecord.{object_at}
+use Rattle.records.proofs.General.RangeLaws.{count_of_range}
+use Rattle.index.specs.BitSet.{bit_at}
+use Rattle.links.proofs.CountLaws.{links_between}
 use Rattle.links.proofs.counts.count_links.Goals as goal
 
-pub first_of_kind-from-requires : goal.first_of_kind-from-requires
-first_of_kind-from-requires c = c.requires.rise
-
-pub overflow_add-kind : goal.overflow_add-kind
-overflow_add-kind c = omega (arith, c.requires.kind)
-
-pub first_of_kind-to-requires : goal.first_of_kind-to-requires
-first_of_kind-to-requires c = c.requires.rise
-
-pub loop-i-init : goal.loop-i-init
-loop-i-init c = (omega arith, c.first_of_kind-from.ensures.within, links_none _ _ _ c.first_of_kind-from.ensures)
-
-pub is_link-requires : goal.is_link-requires
-is_link-requires c = omega (arith, c.loop-i-test.true, c.first_of_kind-to.ensures.within, c.requires.few)
-
-pub overflow_add-links : goal.overflow_add-links
-overflow_add-links c = omega (arith, links_few _ _ _ c.loop-i.invariant.2, c.loop-i.invariant.1, c.requires.few, byte_small c.is_link.result)
-
-pub loop-i-preserved : goal.loop-i-preserved
-loop-i-preserved c = (
-  omega arith,
-  omega (arith, c.loop-i-test.true, c.first_of_kind-to.ensures.within),
-  count_turn (link_at _ _ _) _ _ c.is_link.result c.loop-i.invariant.2
-      (link_here _ _ _ c.first_of_kind-from.ensures c.first_of_kind-to.ensures c.loop-i.invariant.0 c.loop-i-test.true c.is_link.ensures),
-)
-
 pub returns : goal.returns
-returns c = c.loop-i.invariant.2 ∙ links_all _ _ _ c.first_of_kind-to.ensures c.loop-i-test.false c.loop-i.invariant.1
+returns c =
+    let test = λ (i : ℕ). bit_at c.args.set.now (object_at c.args.state.now i) in
+    count_from_yields_List _ _ c.count.ensures.ran
+        (YieldsList-from_filter _ test (YieldsList-from_range _ _ _ c.filter.ensures.source refl) c.filter.ensures.closure (λ x b q k. search rules))
+    ∙ length-filter test _ ∙ count_of_range test _ _ ∙ links_between _ _ _ c.first_of_kind-from.ensures c.first_of_kind-to.ensures

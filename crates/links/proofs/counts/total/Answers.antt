@@ -1,26 +1,23 @@
--- The counts before the present place are added up.
-use mathlib.Core.Path.{◌≡◌, refl}
+-- The counts are words, and few.
+use mathlib.Core.Path.{◌∙◌}
 use native.Mathlib.Omega.{arith}
-use native.Mathlib.Nat.{le_antisymm}
-use Rattle.records.specs.Finite.{sum}
-use Rattle.records.proofs.General.SumLaws.{sum_turn}
+use lib.ListN.{take, get_or}
+use Rattle.std.proofs.Common.{rules}
+use Rattle.records.proofs.General.RangeLaws.{sum_in, sum_in_fits}
+use Rattle.links.proofs.CountLaws.{sum_taken, sum_few}
 use Rattle.links.proofs.counts.total.Goals as goal
 
-pub loop-e-init : goal.loop-e-init
-unfolding sum
-loop-e-init c = (omega arith, refl, omega arith)
-
-pub overflow_add-links : goal.overflow_add-links
-overflow_add-links c = omega (arith, c.loop-e.invariant.2, c.word-links.ensures.word, c.loop-e-test.true, c.requires)
-
-pub loop-e-preserved : goal.loop-e-preserved
-loop-e-preserved c = (
-  omega (arith, c.loop-e-test.true),
-  sum_turn _ _ c.loop-e.invariant.1 c.word-links.ensures.value,
-  omega (arith, c.loop-e.invariant.2, c.word-links.ensures.word),
-)
+pub sum-requires-clause-fits : goal.sum-requires-clause-fits
+sum-requires-clause-fits c =
+    sum_in_fits (λ x. x) (take c.args.n c.args.counts.now) 0 (cc) c.map.ensures.closure (λ x r q k. search rules)
+    (omega (
+      arith,
+      sum_taken c.args.counts.now c.args.n (omega (arith, c.requires, c.told-counts)),
+      sum_few (λ e. get_or c.args.counts.now e 0) c.args.n c.fits-counts,
+      c.requires,
+    ))
 
 pub returns : goal.returns
 returns c =
-    let e : c.loop-e.e ≡ c.args.n = le_antisymm c.loop-e.invariant.0 c.loop-e-test.false in
-    rw e at c.loop-e.invariant.1
+    sum_in (λ x. x) (take c.args.n c.args.counts.now) 0 (cc) c.map.ensures.closure c.sum.ensures.ran (λ x r q k. search rules)
+    ∙ sum_taken c.args.counts.now c.args.n (omega (arith, c.requires, c.told-counts))
