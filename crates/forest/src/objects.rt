@@ -70,6 +70,7 @@ pub fn kid(
     ensures { (edges : List ℕ) → number result ≡ kid_in (ground_in g objects.now edges) (forest_in g n objects.now) attribute d }
 {
     let link = attribute as u64 * OBJECT_PART + d as u64;
+    // A loop and no `rfind`: the library has no law of a search from the end of a range.
     for e in (g..n).rev() {
         if objects[e] % LINK_PART == link {
             return Some(e);

@@ -4,11 +4,8 @@ use native.Mathlib.Omega.{arith}
 use lib.Seq.{length-take-le}
 use Rattle.records.specs.declared.schema.Signature.{Signature}
 use Rattle.records.proofs.AcceptedLaws.{passes_1, signature_few}
-use Rattle.construct.proofs.ArraysLaws.{built_open, clashes_are, constants_inside, marked_by, pair_of}
+use Rattle.construct.proofs.ArraysLaws.{built_open, clashes_are, constants_inside, marked_by}
 use Rattle.construct.proofs.from_nodes.Goals as goal
-
-pub closed-read-requires : goal.closed-read-requires
-closed-read-requires c = let (ok, nodes, size) = c.requires in (pair_of ok, nodes)
 
 pub overflow_sub-first : goal.overflow_sub-first
 overflow_sub-first c =
@@ -27,15 +24,6 @@ pub returns-then-clashes : goal.returns-then-clashes
 returns-then-clashes c =
     sym (clashes_are _ _ _ c.requires.0 _ _ c.closed-read.ensures.closed.prime _ _ (rw c.signature_of-s.ensures) c.signature_of-s.ensures _ c.clashes.ensures)
     ∙ c.if-clashes.true
-
-pub slice_bounds-words-end : goal.slice_bounds-words-end
-slice_bounds-words-end c = let room = c.closed-read.ensures.room in omega (arith, room.0, room.1)
-
-pub slice_bounds-from_primary-end : goal.slice_bounds-from_primary-end
-slice_bounds-from_primary-end c = let room = c.closed-read.ensures.room in sym (length-take-le _ _ (omega (arith, room.0, room.1)))
-
-pub from_primary-sizes-requires : goal.from_primary-sizes-requires
-from_primary-sizes-requires c = let (ok, nodes, size) = c.requires in (ok, c.closed-read.ensures.closed, size)
 
 pub returns : goal.returns
 returns c =

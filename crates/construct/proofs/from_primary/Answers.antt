@@ -25,9 +25,6 @@ walks-made-requires c =
       ground_few _ _ _ ok _ _ after _ _ (laid_by closed ground edges),
     )
 
-pub count_objects-total-requires : goal.count_objects-total-requires
-count_objects-total-requires c = (c.requires.0.schema_accepted, c.walks-made.ensures.kept)
-
 pub returns : goal.returns
 returns c = let (ok, closed, size) = c.requires in
     let ground = c.lay-ground.ensures in

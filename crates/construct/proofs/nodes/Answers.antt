@@ -4,9 +4,6 @@ use mathlib.Core.Path.{ap}
 use Rattle.construct.proofs.NodeLaws.{constants_few, nodes_are}
 use Rattle.construct.proofs.nodes.Goals as goal
 
-pub overflow_add-result : goal.overflow_add-result
-overflow_add-result c = record { fits = omega (arith, c.word.ensures.word) }
-
 pub overflow_add-result-2 : goal.overflow_add-result-2
 overflow_add-result-2 c =
     let few = constants_few _ _ c.requires in
