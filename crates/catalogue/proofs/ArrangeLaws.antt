@@ -1,14 +1,17 @@
 -- How the groups are found one after the other.
 use Prim.Native.Nat.{ℕ, ◌+◌, ◌≤◌, ◌<◌}
-use mathlib.Core.Bool.{Bool, true, false, So, not, ◌&&◌, ◌||◌}
+use mathlib.Core.Bool.{Bool, true, false, cond, not, ◌&&◌, ◌||◌}
 use mathlib.Core.List.{List}
 use mathlib.Core.Path.{◌≡◌, refl, sym, ap, ap₂, ◌∙◌}
 use native.Mathlib.Decide.{dec_lt}
+use native.Mathlib.Nat.{le_antisymm}
 use native.Mathlib.Numerals.{add-one}
 use native.Mathlib.Omega.{arith}
-use borrow.Author.Tests.{lt-ltb, le-ltb, eq-eqb, ne_eqb}
+use borrow.Author.Tests.{lt-ltb, le-ltb, ltb-true, ltb-false, eq-eqb, ne_eqb}
+use Rattle.std.specs.Prelude.{Some, None}
+use Rattle.std.proofs.lemmas.Option.{none-some, cond_some}
 use lib.Bits.{bit_or}
-use lib.Dec.{eqb}
+use lib.Dec.{eqb, ltb}
 use lib.ListN.{length, get_or, set}
 use Rattle.records.specs.Finite.{any, bit, set_of}
 use Rattle.records.specs.Layout.{max_views}
@@ -20,32 +23,26 @@ use Rattle.catalogue.specs.Answers.{Arranged}
 use Rattle.catalogue.specs.Helpers.{unplaced}
 use Rattle.catalogue.proofs.FilledLaws.{Filled, filled_none, filled_more}
 
--- whether a view is ready, by what a search finds
-module _ (n : ℕ) (held : ℕ → ℕ → Bool) (t : ℕ → Bool) (i : ℕ) where
-  pub ready_placed : t i ≡ false → false ≡ ready n held t i
-  unfolding ready
-  ready_placed e = rw e refl
-
-  pub ready_blocked : So (any n λ j. t j && narrower held j i) → false ≡ ready n held t i
-  unfolding ready
-  ready_blocked e = rw e (pick (t i))
-    where
-      pick : (b : Bool) → false ≡ (b && false)
-      pick true = refl
-      pick false = refl
-
-  pub ready_free : So (t i) → any n (λ j. t j && narrower held j i) ≡ false → true ≡ ready n held t i
-  unfolding ready
-  ready_free e h = rw (e, h) refl
-
 -- what is next depends on which views are to come alone
 pub next_same : (n : ℕ) (held : ℕ → ℕ → Bool) (t u : ℕ → Bool) → ((i : ℕ) → i < n → t i ≡ u i) → next n held t ≡ next n held u
 unfolding next ready
 next_same n held t u e = least_same _ _ n (λ i h. ap₂ (λ a b. a && not b) (e i h) (any_same _ _ n (λ j k _. ap (λ a. a && narrower held j i) (e j k))))
 
-pub next_le : (n : ℕ) (held : ℕ → ℕ → Bool) (t : ℕ → Bool) → next n held t ≤ n
+next_le : (n : ℕ) (held : ℕ → ℕ → Bool) (t : ℕ → Bool) → next n held t ≤ n
 unfolding next
 next_le n held t = least_le (ready n held t) n
+
+-- what the search for the next view finds
+module _ (k n : ℕ) where
+  search_found : {m : ℕ} → cond (ltb k n) (Some k) None ≡ Some m → (m ≡ k) × (k < n)
+  search_found e = let z = cond_some _ _ _ e in (sym z.1, ltb-true k n z.0)
+
+  search_ended : cond (ltb k n) (Some k) None ≡ None → n ≤ k
+  search_ended e = ltb-false k n (pick (ltb k n) e)
+    where
+      pick : (b : Bool) → cond b (Some k) None ≡ None → b ≡ false
+      pick true e = absurd (none-some k (sym e))
+      pick false e = refl
 
 not_or : (a b : Bool) → not (a || b) ≡ (not a && not b)
 not_or true b = refl
@@ -64,8 +61,18 @@ module _ (n : ℕ) (held : ℕ → ℕ → Bool) where
       record { filled = filled_none _ _ _ _ zeros s z; left = λ i h. ap not (word_zero i); each = any_zero _ }
 
   module _ {k : ℕ} {found : List ℕ} {placed : ℕ} (z : Placed k found placed) where
-    pub placed_next : next n held (unplaced placed) ≡ lowest n held k
+    placed_next : next n held (unplaced placed) ≡ lowest n held k
     placed_next = next_same n held _ _ z.left
+
+    abbrev next_view : ℕ
+    next_view = next n held (unplaced placed)
+
+    -- the search for the next group ends, or finds it
+    pub placed_ended : cond (ltb next_view n) (Some next_view) None ≡ None → lowest n held k ≡ n
+    placed_ended e = sym placed_next ∙ le_antisymm (next_le n held (unplaced placed)) (search_ended next_view n e)
+
+    pub placed_found : {m : ℕ} → cond (ltb next_view n) (Some next_view) None ≡ Some m → (m ≡ lowest n held k) × (m < n)
+    placed_found e = let f = search_found next_view n e in (f.0 ∙ placed_next, omega (arith, f.0, f.1))
 
     pub placed_more : k < max_views → (v : ℕ) → (lowest n held k ≡ n → ⊥) → v ≡ set_of n (together held (lowest n held k))
         → Placed (k + 1) (set found k v) (bit_or placed v)

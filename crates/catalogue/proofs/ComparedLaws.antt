@@ -1,9 +1,9 @@
 -- The pairs are settled one after the other: a view is compared with each before it, and at the end the rows tell of every pair.
-use Prim.Native.Nat.{ℕ, ◌+◌, ◌-◌, ◌≤◌, ◌<◌}
+use Prim.Native.Nat.{ℕ, ◌+◌, ◌≤◌, ◌<◌}
 use mathlib.Core.Bool.{So, false≢true}
 use mathlib.Core.List.{List}
 use mathlib.Core.Logic.{◌⊎◌, inl, inr}
-use mathlib.Core.Path.{refl}
+use mathlib.Core.Path.{◌≡◌, refl}
 use native.Mathlib.Decide.{ℕ_discrete}
 use native.Mathlib.Omega.{arith}
 use Rattle.records.specs.SchemaRecord.{schema_of}
@@ -18,24 +18,24 @@ module _ (schema w : List ℕ) where
   abbrev n : ℕ
   n = views w
 
-  -- View j is compared with the k views that stand directly before it.
-  pub record Compared (rows opens : List ℕ) (j k : ℕ) (rows' opens' : List ℕ) : Type 0 where
+  -- View j is compared with each view before it from i on.
+  pub record Compared (rows opens : List ℕ) (j i : ℕ) (rows' opens' : List ℕ) : Type 0 where
     pub grown : Grown schema w rows opens rows' opens'
-    pub told : (i : ℕ) → i < j → j ≤ i + k → So (settled rows' opens' i j) × So (settled rows' opens' j i)
+    pub told : (a : ℕ) → i ≤ a → a < j → So (settled rows' opens' a j) × So (settled rows' opens' j a)
 
-  pub compared_none : {rows opens : List ℕ} (j : ℕ) → Known schema w rows opens → Compared rows opens j 0 rows opens
-  compared_none j z = record { grown = grown_same schema w _ _ z; told = λ i h k. absurd (omega arith) }
+  pub compared_none : {rows opens : List ℕ} (j : ℕ) → Known schema w rows opens → Compared rows opens j j rows opens
+  compared_none j z = record { grown = grown_same schema w _ _ z; told = λ a h k. absurd (omega arith) }
 
-  pub compared_more : {rows opens rows' opens' : List ℕ} {j k : ℕ} → k < j → Compared rows opens j k rows' opens'
-      → {one uno two duo : List ℕ} → Grown schema w rows' opens' one uno → So (settled one uno (j - 1 - k) j)
-      → Grown schema w one uno two duo → So (settled two duo j (j - 1 - k)) → Compared rows opens j (k + 1) two duo
-  compared_more {j = j} {k = k} l z {two = two} {duo = duo} g x h y =
+  pub compared_more : {rows opens rows' opens' : List ℕ} {j i k : ℕ} → k ≡ i + 1 → Compared rows opens j k rows' opens'
+      → {one uno two duo : List ℕ} → Grown schema w rows' opens' one uno → So (settled one uno i j)
+      → Grown schema w one uno two duo → So (settled two duo j i) → Compared rows opens j i two duo
+  compared_more {j = j} {i = i} e z {two = two} {duo = duo} g x h y =
       record {
         grown = grown_after schema w (grown_after schema w z.grown g) h;
-        told = λ i b c.
-            elim (ℕ_discrete i (j - 1 - k)) [
-              | yes e ↦ rw e (h.keeps (j - 1 - k) j x, y)
-              | no d ↦ let t = z.told i b (omega arith) in (h.keeps i j (g.keeps i j t.0), h.keeps j i (g.keeps j i t.1))
+        told = λ a b c.
+            elim (ℕ_discrete a i) [
+              | yes q ↦ rw q (h.keeps i j x, y)
+              | no d ↦ let t = z.told a (omega arith) c in (h.keeps a j (g.keeps a j t.0), h.keeps j a (g.keeps j a t.1))
             ];
       }
 

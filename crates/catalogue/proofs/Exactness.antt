@@ -6,6 +6,8 @@ use mathlib.Core.List.{List}
 use mathlib.Core.Path.{◌≡◌, sym, ◌∙◌}
 use native.Mathlib.Omega.{arith}
 use lib.ListN.{get_or}
+use Rattle.std.specs.Prelude.{None, Result, Ok}
+use Rattle.records.specs.declared.refusal.Refusal.{Refusal}
 use Rattle.records.specs.Finite.{bit}
 use Rattle.records.specs.Layout.{max_views}
 use Rattle.records.specs.SchemaRecord.{schema_of}
@@ -13,7 +15,6 @@ use Rattle.records.specs.CatalogueRecord.{views}
 use Rattle.records.proofs.General.FiniteLaws.{least_le}
 use Rattle.records.proofs.SubsumptionLaws.{held_self}
 use Rattle.catalogue.specs.declared.arrange.Order.{Order}
-use Rattle.catalogue.specs.declared.order.OrderAnswer.{OrderAnswer}
 use Rattle.catalogue.specs.Order.{groups, lowest, in_group}
 use Rattle.catalogue.specs.Answers.{refusal_of, TellsEach, Arranged, Ordering}
 use Rattle.catalogue.specs.Exact.{InOrder}
@@ -79,8 +80,8 @@ module _ (schema w : List ℕ) where
         }
 
   -- for any words that are not refused
-  pub order_exact : (answer : OrderAnswer) → Ordering schema w answer → refusal_of schema w ≡ 0
-      → InOrder n (HeldBy schema w) answer.order.count (λ k i. So (bit (get_or answer.order.groups k 0) i))
+  pub order_exact : (answer : Result Order Refusal) → Ordering schema w answer → refusal_of schema w ≡ None
+      → (o : Order) × (answer ≡ Ok o) × InOrder n (HeldBy schema w) o.count (λ k i. So (bit (get_or o.groups k 0) i))
   order_exact answer o z =
-      let (held, tells, arranged) = o.decided z in
-      exact held tells answer.order arranged (few_views schema w (accepted_of schema w z))
+      let (order, is, held, tells, arranged) = o.decided z in
+      (order, is, exact held tells order arranged (few_views schema w (accepted_of schema w z)))

@@ -1,5 +1,5 @@
 -- What contracts of helper functions cite: sets of views as words, and what is known of the pairs so far.
-use Rattle.std.specs.Prelude.{ℕ, ◌^◌, ◌≤◌, ◌<◌, List, Bool, cond, not, ◌&&◌, ◌||◌, ◌≡◌, eqb, length, get_or}
+use Rattle.std.specs.Prelude.{ℕ, ◌^◌, ◌≤◌, ◌<◌, List, Bool, false, cond, not, ◌&&◌, ◌||◌, ◌≡◌, eqb, length, get_or}
 use Rattle.std.proofs.Math.Bool.{So}
 use Rattle.std.specs.Int.Bits.{bit_and, bit_or}
 use Rattle.records.specs.Finite.{any, bit}
@@ -10,8 +10,6 @@ use Rattle.records.specs.SchemaRefusal.{AcceptedSchema}
 use Rattle.records.specs.ConceptRecord.{concept_of}
 use Rattle.records.specs.CatalogueRecord.{views, view_at}
 use Rattle.records.specs.CatalogueRefusal.{AcceptedCatalogue}
-use Rattle.decide.specs.declared.holds.HoldsAnswer.{HoldsAnswer}
-use Rattle.decide.specs.declared.holds.HoldsAnswer.TheVariants as verdict
 use Rattle.catalogue.specs.Answers.{TellsEach}
 
 -- a set of views for each view
@@ -80,11 +78,7 @@ module _ (schema w : List ℕ) where
     pub tells : TellsEach schema w (in_row rows)
     pub inside : (i j : ℕ) → So (in_row rows i j) → (i < views w) × (j < views w)
 
-abbrev pub verdict_of : Bool → HoldsAnswer
-verdict_of held = cond held verdict.Held verdict.Open
-
--- the verdicts of the first n views by a set
-pub record Row (n set : ℕ) (row : List HoldsAnswer) : Type 0 where
+-- the verdicts of one view
+pub record Row (verdict : ℕ → Bool) (row : List Bool) : Type 0 where
   pub size : length row ≡ max_views
-  pub first : (j : ℕ) → j < n → get_or row j verdict.Held ≡ verdict_of (bit set j)
-  pub rest : (j : ℕ) → n ≤ j → j < max_views → get_or row j verdict.Held ≡ verdict.Open
+  pub cells : (j : ℕ) → j < max_views → get_or row j false ≡ verdict j

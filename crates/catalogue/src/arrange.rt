@@ -1,5 +1,5 @@
 // The order of the groups, from the rows of n views: row i is the set of the views that hold view i.
-ghost use Rattle.std.specs.Prelude.{◌&&◌, ◌≡◌, ◌≤◌, ◌<◌};
+ghost use Rattle.std.specs.Prelude.{◌&&◌, cond, ltb, ◌≡◌, ◌≤◌, ◌<◌};
 ghost use Rattle.records.specs.Finite.{set_of};
 ghost use Rattle.records.specs.Layout.{max_views};
 ghost use Rattle.catalogue.specs.Order.{together as together_in, narrower, ready as ready_in, next as next_in};
@@ -28,11 +28,7 @@ fn group(rows: &[u16], n: usize, i: usize) -> u16
     requires { Rows rows.now × (n ≤ max_views) × (i < max_views) }
     ensures { result ≡ set_of n (together_in (in_row rows.now) i) }
 {
-    let mut set = 0;
-    for j in 0..n {
-        set += only_if(together(rows, i, j), j);
-    }
-    set
+    (0..n).map(|j| only_if(together(rows, i, j), j)).sum()
 }
 
 // View `j` is still to come, and narrower than view `i`.
@@ -48,28 +44,15 @@ fn ready(rows: &[u16], n: usize, placed: u16, i: usize) -> bool
     requires { Rows rows.now × (n ≤ max_views) × (i < max_views) }
     ensures { result ≡ ready_in n (in_row rows.now) (unplaced placed) i }
 {
-    if has(placed, i) {
-        return false;
-    }
-    for j in 0..n {
-        if precedes(rows, placed, j, i) {
-            return false;
-        }
-    }
-    true
+    !has(placed, i) && !(0..n).any(|j| precedes(rows, placed, j, i))
 }
 
-// The lowest view of the next group, or `n`.
-fn next(rows: &[u16], n: usize, placed: u16) -> usize
+// The lowest view of the next group, if there is one.
+fn next(rows: &[u16], n: usize, placed: u16) -> Option<usize>
     requires { Rows rows.now × (n ≤ max_views) }
-    ensures { result ≡ next_in n (in_row rows.now) (unplaced placed) }
+    ensures { let lowest = next_in n (in_row rows.now) (unplaced placed) in result ≡ cond (ltb lowest n) (Some lowest) None }
 {
-    for i in 0..n {
-        if ready(rows, n, placed, i) {
-            return i;
-        }
-    }
-    n
+    (0..n).find(|i| ready(rows, n, placed, *i))
 }
 
 pub fn arrange(rows: &[u16], n: usize) -> Order
@@ -79,16 +62,15 @@ pub fn arrange(rows: &[u16], n: usize) -> Order
     let mut groups = [0u16; MAX_VIEWS];
     let mut placed = 0;
     for k in 0..n {
-        let lowest = next(rows, n, placed);
-        if lowest == n {
+        let Some(lowest) = next(rows, n, placed) else {
             return Order {
                 groups,
                 count: k as u64,
             };
-        }
+        };
         let views = group(rows, n, lowest);
         groups[k] = views;
-        placed = placed | views;
+        placed |= views;
     }
     Order {
         groups,

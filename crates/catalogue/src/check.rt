@@ -1,18 +1,16 @@
 // The schema, then the catalogue.
 ghost use Rattle.std.specs.Prelude.{◌≡◌};
-ghost use Rattle.catalogue.specs.Answers.{refusal_of};
+ghost use Rattle.catalogue.specs.Answers.{checked};
 
 use check_catalogue::check_catalogue;
 use check_schema::check_schema;
-use records::schema::SchemaAnswer;
+use records::refusal::Refusal;
 
-// The number of the first refusal that applies, or 0.
-pub fn refusal(schema: &[u16], catalogue: &[u16]) -> u16
-    ensures { result ≡ refusal_of schema.now catalogue.now }
+// The first refusal that applies, or nothing.
+#[tactic(auto, unfolding(records::specs::Outcome::outcome, records::specs::Outcome::first_refusal))]
+pub fn check(schema: &[u16], catalogue: &[u16]) -> Result<(), Refusal>
+    ensures { result ≡ checked schema.now catalogue.now }
 {
-    let checked = check_schema(schema);
-    let SchemaAnswer::Accepted(s) = checked else {
-        return checked.number();
-    };
+    let s = check_schema(schema)?;
     check_catalogue(s, catalogue)
 }

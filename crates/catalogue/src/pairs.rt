@@ -10,6 +10,7 @@ ghost use Rattle.catalogue.specs.Helpers.{Rows, joined as joined_to, Joined, Alo
 use crate::sets::{has, meets, only_if};
 use check_catalogue::{MAX_VIEWS, view_at, views};
 use decide::held::held;
+use std::array::from_fn;
 
 // The row, with all of `above` if view `i` is in it.
 fn joined(row: u16, i: usize, above: u16) -> u16
@@ -36,12 +37,7 @@ fn refuted(rows: &[u16], opens: &[u16], n: usize, i: usize, j: usize) -> bool
     ensures { result ≡ refutes n rows.now opens.now i j }
 {
     let above = rows[j];
-    for a in 0..n {
-        if has(rows[a], i) & meets(opens[a], above) {
-            return true;
-        }
-    }
-    false
+    (0..n).any(|a| has(rows[a], i) & meets(opens[a], above))
 }
 
 // Whether view `i` is held by view `j`, where that is not known.
@@ -74,7 +70,7 @@ fn settle(
         add_held(rows, views(catalogue), i, j);
         return;
     }
-    opens[i] = opens[i] | only_if(true, j);
+    opens[i] |= only_if(true, j);
 }
 
 // View `j` with each view before it. The nearest comes first: in a catalogue that is in order already the rest follows.
@@ -83,8 +79,7 @@ fn compare(schema: &[u16], catalogue: &[u16], rows: &mut [u16], opens: &mut [u16
     ensures grown { Grown schema.now catalogue.now rows.old opens.old rows.new opens.new }
     ensures told { (i : ℕ) → i < j → So (settled rows.new opens.new i j) × So (settled rows.new opens.new j i) }
 {
-    for k in 0..j {
-        let i = j - 1 - k;
+    for i in (0..j).rev() {
         settle(schema, catalogue, i, j, rows, opens);
         settle(schema, catalogue, j, i, rows, opens);
     }
@@ -105,11 +100,7 @@ fn begin(n: usize) -> [u16; MAX_VIEWS]
     requires { n ≤ max_views }
     ensures { Alone n result }
 {
-    let mut rows = [0u16; MAX_VIEWS];
-    for i in 0..n {
-        rows[i] = only_if(true, i);
-    }
-    rows
+    from_fn(|i| only_if(i < n, i))
 }
 
 // Row i is the set of the views that hold view i. The rows at or above the count are empty.

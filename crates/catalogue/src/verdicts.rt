@@ -1,56 +1,44 @@
 // The verdict of each ordered pair of views, in an array of arrays.
-ghost use Rattle.std.specs.Prelude.{◌≡◌, ◌≤◌};
+ghost use Rattle.std.specs.Prelude.{◌<◌};
 ghost use Rattle.records.specs.Layout.{max_views};
 ghost use Rattle.catalogue.specs.Order.{held_at};
 ghost use Rattle.catalogue.specs.Answers.{Table, Verdicts};
-ghost use Rattle.catalogue.specs.Helpers.{verdict_of, Rows, Row, in_row};
+ghost use Rattle.catalogue.specs.Helpers.{Rows, Row, in_row};
 
-use crate::check::refusal;
+use crate::check::check;
 use crate::pairs::rows;
 use crate::sets::has;
 use check_catalogue::{MAX_VIEWS, views};
-use decide::holds::HoldsAnswer;
+use records::refusal::Refusal;
+use std::array::from_fn;
 
-fn verdict(held: bool) -> HoldsAnswer
-    ensures { result ≡ verdict_of held }
+// Whether view `i` is held by each view.
+fn row(rows: &[u16], n: usize, i: usize) -> [bool; MAX_VIEWS]
+    requires { Rows rows.now × (i < max_views) }
+    ensures { Row (held_at n (in_row rows.now) i) result }
 {
-    if held {
-        HoldsAnswer::Held
-    } else {
-        HoldsAnswer::Open
-    }
+    from_fn(|j| (i < n) & ((j < n) & has(rows[i], j)))
 }
 
-// The verdicts of the view that is held by the set.
-fn row(set: u16, n: usize) -> [HoldsAnswer; MAX_VIEWS]
-    requires { n ≤ max_views }
-    ensures { Row n set result }
+fn table(rows: &[u16], n: usize) -> [[bool; MAX_VIEWS]; MAX_VIEWS]
+    requires { Rows rows.now }
+    ensures { Table (held_at n (in_row rows.now)) result }
 {
-    let mut verdicts = [HoldsAnswer::Open; MAX_VIEWS];
-    for j in 0..n {
-        verdicts[j] = verdict(has(set, j));
-    }
-    verdicts
+    from_fn(
+        |i|
+            requires { Rows rows.now × (i < max_views) }
+            ensures { Row (held_at n (in_row rows.entry.now) i) result }
+        { row(rows, n, i) },
+    )
 }
 
-fn table(rows: &[u16], n: usize) -> [[HoldsAnswer; MAX_VIEWS]; MAX_VIEWS]
-    requires { Rows rows.now × (n ≤ max_views) }
-    ensures { Table (λ i j. verdict_of (held_at n (in_row rows.now) i j)) result }
-{
-    let mut verdicts = [[HoldsAnswer::Open; MAX_VIEWS]; MAX_VIEWS];
-    for i in 0..n {
-        verdicts[i] = row(rows[i], n);
-    }
-    verdicts
-}
-
-pub fn verdicts(schema: &[u16], catalogue: &[u16]) -> [[HoldsAnswer; MAX_VIEWS]; MAX_VIEWS]
+pub fn verdicts(
+    schema: &[u16],
+    catalogue: &[u16],
+) -> Result<[[bool; MAX_VIEWS]; MAX_VIEWS], Refusal>
     ensures { Verdicts schema.now catalogue.now result }
 {
-    let number = refusal(schema, catalogue);
-    if number != 0 {
-        return [[HoldsAnswer::Refused(number); MAX_VIEWS]; MAX_VIEWS];
-    }
+    check(schema, catalogue)?;
     let rows = rows(schema, catalogue);
-    table(&rows, views(catalogue))
+    Ok(table(&rows, views(catalogue)))
 }

@@ -92,7 +92,7 @@ module _ (schema query view : List ℕ) where
       unfolding refusal_11 first_refusal
       decide_short h =
           let first : first_refusal (decide_refusals schema query view lent) ≡ Some LentWords =
-              first_lent ∙ rw (lt-ltb (length lent) max_state_words h) refl in
+          first_lent ∙ rw (lt-ltb (length lent) max_state_words h) refl in
           record { refused = λ q f. (cc, refl); decided = λ n. absurd (none-some LentWords (sym n ∙ first)) }
 
       pub decide_decided : max_state_words ≤ length lent → {v : Option Witness} {words : List ℕ} → Verdict schema query view lent v words

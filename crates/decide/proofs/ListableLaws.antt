@@ -1,10 +1,9 @@
 -- The candidate in arrays is listed: what each call of `list_in` relies on, and what stands at the start of the list then.
-use Prim.Native.Nat.{ℕ, ◌-◌, ◌≤◌, ◌<◌}
+use Prim.Native.Nat.{ℕ, ◌-◌, ◌≤◌}
 use mathlib.Core.List.{List}
-use mathlib.Core.Path.{◌≡◌, sym, ap, ◌∙◌}
+use mathlib.Core.Path.{◌≡◌, ap, ◌∙◌}
 use native.Mathlib.Omega.{arith}
 use lib.ListN.{length, take}
-use lib.Seq.{length-take-le}
 use Rattle.records.specs.declared.schema.Signature.{Signature}
 use Rattle.records.specs.Layout.{max_classes, max_attributes, max_constants, max_objects, query_steps}
 use Rattle.records.specs.Marks.{allowing}
@@ -12,7 +11,7 @@ use Rattle.records.specs.SchemaRecord.{signature_of, schema_of}
 use Rattle.records.proofs.AcceptedLaws.{passes_1}
 use Rattle.chase.specs.Bounds.{most_facts}
 use Rattle.chase.proofs.AcceptanceLaws.{accepted-signature}
-use Rattle.ground.specs.Numbers.{Inside, object_in}
+use Rattle.ground.specs.Numbers.{object_in}
 use Rattle.candidate.specs.declared.marks.Shape.{Shape}
 use Rattle.candidate.specs.Facts.{all_facts}
 use Rattle.candidate.specs.Ready.{Ready, NodesIn}

@@ -1,5 +1,5 @@
 // Holds: whether in every legal state each object in the query is in the view, without the state that shows it is not. Arbitrary
-// words are taken; faulty records are refused by number.
+// words are taken; faulty records are refused.
 ghost use Rattle.decide.specs.Holding.{Holding};
 
 use crate::check::check;

@@ -1,5 +1,5 @@
 // Decide: whether in every legal state each object in the query is in the view. If not, a legal state with an object in the
-// query and outside the view is written to the lent words. Arbitrary words are taken; faulty records are refused by number.
+// query and outside the view is written to the lent words. Arbitrary words are taken; faulty records are refused.
 #![tactic(auto)]
 
 ghost use Rattle.decide.specs.Decision.{Decision};

@@ -5,31 +5,35 @@ use native.Mathlib.Nat.{le_antisymm}
 use native.Mathlib.Omega.{arith}
 use lib.ListN.{length-replicate, get_or-replicate}
 use Rattle.records.specs.Layout.{max_views}
-use Rattle.catalogue.specs.Helpers.{in_row, unplaced}
-use Rattle.catalogue.proofs.ArrangeLaws.{placed_none, placed_next, placed_more, placed_all, next_le}
+use Rattle.catalogue.proofs.ArrangeLaws.{placed_none, placed_ended, placed_found, placed_more, placed_all}
 use Rattle.catalogue.proofs.arrange.arrange.Goals as goal
 
 pub loop-k-init : goal.loop-k-init
 loop-k-init c = (omega arith, placed_none _ _ _ (length-replicate {A = ℕ} max_views 0) (λ k h. get_or-replicate {A = ℕ} max_views k 0 0 h))
 
-pub next-lowest-requires : goal.next-lowest-requires
-next-lowest-requires c = c.requires
+pub next-requires : goal.next-requires
+next-requires c = c.requires
 
-pub returns-then-lowest-n : goal.returns-then-lowest-n
-returns-then-lowest-n c =
-    placed_all _ _ c.loop-k.invariant.1 c.loop-k.invariant.0
-    (λ _. sym (placed_next _ _ c.loop-k.invariant.1) ∙ sym c.next-lowest.ensures ∙ c.if-lowest-n.true)
+pub returns-in_default : goal.returns-in_default
+returns-in_default c =
+    let z = c.loop-k.invariant.1 in
+    placed_all _ _ z c.loop-k.invariant.0 (λ _. placed_ended _ _ z (sym c.next.ensures ∙ c.in_default.is))
 
 pub group-views-requires : goal.group-views-requires
-group-views-requires c = (c.requires.0, c.requires.1, omega (arith, c.requires.1, c.next-lowest.ensures, next_le c.args.n (in_row c.args.rows.now) (unplaced c.loop-k.placed), c.if-lowest-n.false))
+group-views-requires c =
+    let found = placed_found _ _ c.loop-k.invariant.1 (sym c.next.ensures ∙ c.in-Some.is) in
+    (c.requires.0, c.requires.1, omega (arith, c.requires.1, found.1))
 
 pub bounds-groups-k : goal.bounds-groups-k
 bounds-groups-k c = omega (arith, c.requires.1)
 
 pub loop-k-preserved : goal.loop-k-preserved
 loop-k-preserved c =
-    let e = sym (placed_next _ _ c.loop-k.invariant.1) ∙ sym c.next-lowest.ensures in
-    (omega arith, placed_more _ _ c.loop-k.invariant.1 (omega (arith, c.requires.1)) _ (λ q. c.if-lowest-n.false (sym e ∙ q)) (rw (sym e) at c.group-views.ensures))
+    let z = c.loop-k.invariant.1 in
+    let found = placed_found _ _ z (sym c.next.ensures ∙ c.in-Some.is) in (
+      omega arith,
+      placed_more _ _ z (omega (arith, c.requires.1)) _ (λ q. omega (arith, found.0, found.1, q)) (rw found.0 at c.group-views.ensures),
+    )
 
 pub returns : goal.returns
 returns c =

@@ -1,25 +1,20 @@
--- The rows are filled one after the other (FilledLaws).
-use Prim.Native.Nat.{ℕ}
+-- Each row by itself: its own view, or nothing past the last.
+use Prim.Native.Nat.{ℕ, ◌^◌, ◌<◌}
 use native.Mathlib.Omega.{arith}
-use lib.ListN.{length-replicate, get_or-replicate}
 use Rattle.records.specs.Layout.{max_views}
-use Rattle.catalogue.proofs.FilledLaws.{filled_none, filled_more}
+use mathlib.Core.Bool.{cond}
+use mathlib.Core.Path.{◌≡◌}
+use borrow.Author.Tests.{lt-ltb, le-ltb}
+use lib.Dec.{ltb}
+use Rattle.std.proofs.Common.{rules}
+use Rattle.catalogue.proofs.FromFnLaws.{entry_from_fn}
 use Rattle.catalogue.proofs.pairs.begin.Goals as goal
-
-pub loop-i-init : goal.loop-i-init
-loop-i-init c = (omega arith, filled_none _ _ _ _ _ (length-replicate {A = ℕ} max_views 0) (λ k h. get_or-replicate {A = ℕ} max_views k 0 0 h))
-
-pub only_if-requires : goal.only_if-requires
-only_if-requires c = omega (arith, c.requires)
-
-pub bounds-rows-i : goal.bounds-rows-i
-bounds-rows-i c = omega (arith, c.requires)
-
-pub loop-i-preserved : goal.loop-i-preserved
-loop-i-preserved c =
-    (omega arith, filled_more _ _ _ _ _ _ _ c.loop-i.invariant.1 (omega (arith, c.requires)) c.only_if.ensures)
 
 pub returns : goal.returns
 returns c =
-    let l = c.loop-i.invariant.1 in
-    record { size = l.size; first = λ k h. l.first k (omega arith); rest = λ k h. l.rest k (omega arith) }
+    let rows = entry_from_fn (λ (k x : ℕ). x ≡ cond (ltb k c.args.n) (2 ^ k) 0) (λ i y q k. search rules) c.from_fn.ensures.items in
+    record {
+      size = c.from_fn.ensures.items.long;
+      first = λ i h. let b : i < max_views = omega (arith, c.requires) in rw (lt-ltb i c.args.n h) at (rows 0 i b);
+      rest = λ i h b. rw (le-ltb i c.args.n h) at (rows 0 i b);
+    }

@@ -1,7 +1,6 @@
 -- The views passed are settled both ways (ComparedLaws).
-use Prim.Native.Nat.{◌≤◌}
 use Rattle.catalogue.proofs.ComparedLaws.{Compared}
 use Rattle.catalogue.proofs.pairs.compare.Given as goal
 
-abbrev pub invariant-loop-k : goal.invariant-loop-k
-invariant-loop-k l = (l.k ≤ l.j) × Compared l.schema l.catalogue l.initial.rows l.initial.opens l.j l.k l.rows l.opens
+abbrev pub invariant-loop-i : goal.invariant-loop-i
+invariant-loop-i l = Compared l.schema l.catalogue l.initial.rows l.initial.opens l.j l.i l.rows l.opens

@@ -46,9 +46,6 @@ pub only_if-requires : goal.only_if-requires
 only_if-requires c =
     omega (arith, few_views _ _ c.requires.0.accepted, c.requires.2)
 
-pub offset_bounds-opens-i-2 : goal.offset_bounds-opens-i-2
-offset_bounds-opens-i-2 c = omega (arith, few_views _ _ c.requires.0.accepted, c.requires.1)
-
 pub bounds-opens-i-2 : goal.bounds-opens-i-2
 bounds-opens-i-2 c =
     omega (arith, few_views _ _ c.requires.0.accepted, c.requires.0.opens_size, c.requires.1)

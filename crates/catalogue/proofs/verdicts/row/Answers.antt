@@ -1,28 +1,14 @@
--- The verdicts are filled in one after the other (FilledLaws).
-use mathlib.Core.Path.{ap, ◌∙◌}
-use native.Mathlib.Omega.{arith}
-use lib.ListN.{length-replicate, get_or-replicate}
-use Rattle.records.specs.Layout.{max_views}
-use Rattle.decide.specs.declared.holds.HoldsAnswer.{HoldsAnswer}
-use Rattle.decide.specs.declared.holds.HoldsAnswer.TheVariants.{Held, Open}
-use Rattle.catalogue.specs.Helpers.{verdict_of}
-use Rattle.catalogue.proofs.FilledLaws.{filled_none, filled_more}
+-- Each verdict by itself.
+use Rattle.std.proofs.Common.{rules}
+use mathlib.Core.Bool.{Bool, false}
+use mathlib.Core.Path.{◌≡◌}
+use Prim.Native.Nat.{ℕ}
+use Rattle.catalogue.specs.Order.{held_at}
+use Rattle.catalogue.specs.Helpers.{in_row}
+use Rattle.catalogue.proofs.FromFnLaws.{entry_from_fn}
 use Rattle.catalogue.proofs.verdicts.row.Goals as goal
-
-pub loop-j-init : goal.loop-j-init
-loop-j-init c = (omega arith, filled_none _ _ _ _ _ (length-replicate {A = HoldsAnswer} max_views Open) (λ k h. get_or-replicate {A = HoldsAnswer} max_views k Open Held h))
-
-pub has-requires : goal.has-requires
-has-requires c = omega (arith, c.requires)
-
-pub bounds-verdicts-j : goal.bounds-verdicts-j
-bounds-verdicts-j c = omega (arith, c.requires)
-
-pub loop-j-preserved : goal.loop-j-preserved
-loop-j-preserved c =
-    (omega arith, filled_more _ _ _ _ _ _ _ c.loop-j.invariant.1 (omega (arith, c.requires)) (c.verdict.ensures ∙ ap verdict_of c.has.ensures))
 
 pub returns : goal.returns
 returns c =
-    let l = c.loop-j.invariant.1 in
-    record { size = l.size; first = λ k h. l.first k (omega arith); rest = λ k h. l.rest k (omega arith) }
+    let verdict = held_at c.args.n (in_row c.args.rows.now) c.args.i in
+    record { size = c.from_fn.ensures.items.long; cells = entry_from_fn (λ (j : ℕ) (v : Bool). v ≡ verdict j) (λ j v q k. search rules) c.from_fn.ensures.items false }

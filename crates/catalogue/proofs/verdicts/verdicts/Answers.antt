@@ -1,25 +1,26 @@
 -- By the refusal, or by the rows (AnswerLaws).
-use mathlib.Core.Path.{sym, ◌∙◌}
+use mathlib.Core.Path.{◌≡◌, sym, ◌∙◌}
+use Rattle.std.specs.Prelude.{Err}
+use Rattle.std.proofs.lemmas.Grind.{common_steps}
 use native.Mathlib.Omega.{arith}
-use Rattle.catalogue.proofs.KnownLaws.{few_views}
-use Rattle.catalogue.proofs.AnswerLaws.{accepted_of, verdicts_refused, verdicts_decided}
+use Rattle.catalogue.proofs.AnswerLaws.{checked_accepted, verdicts_refused, verdicts_decided}
 use Rattle.catalogue.proofs.verdicts.verdicts.Goals as goal
 
-pub returns-then-number-ne0 : goal.returns-then-number-ne0
-returns-then-number-ne0 c = verdicts_refused _ _ c.refusal-number.ensures c.if-number-ne0.true
+pub returns-in_err-check : goal.returns-in_err-check
+returns-in_err-check c =
+    let is : c.from_residual.result ≡ Err c.in_err-check.field-0.0 = grind (arith, common_steps) in
+    rw is (verdicts_refused _ _ (sym c.in_err-check.ensures))
 
 pub rows-rows-requires : goal.rows-rows-requires
-rows-rows-requires c = accepted_of _ _ (sym c.refusal-number.ensures ∙ c.if-number-ne0.false)
+rows-rows-requires c = checked_accepted _ _ (sym c.check.ensures ∙ c.in_ok-check.was)
 
 pub slice_bounds-table-end : goal.slice_bounds-table-end
 slice_bounds-table-end c = sym c.rows-rows.ensures.size
 
 pub table-requires : goal.table-requires
-table-requires c =
-    let none = sym c.refusal-number.ensures ∙ c.if-number-ne0.false in
-    (c.rows-rows.ensures.size, omega (arith, c.views.ensures.value, few_views _ _ (accepted_of _ _ none)))
+table-requires c = c.rows-rows.ensures.size
 
 pub returns : goal.returns
 returns c =
-    let none = sym c.refusal-number.ensures ∙ c.if-number-ne0.false in
-    verdicts_decided _ _ none _ c.rows-rows.ensures _ (rw c.views.ensures.value at c.table.ensures)
+    verdicts_decided _ _ (sym c.check.ensures ∙ c.in_ok-check.was) _ c.rows-rows.ensures _
+    (rw c.views.ensures.value at c.table.ensures)

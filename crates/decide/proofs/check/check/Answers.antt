@@ -1,9 +1,7 @@
 -- Each return is by the first refusal that applies.
-use mathlib.Core.Path.{◌≡◌, sym, ◌∙◌}
+use mathlib.Core.Path.{sym, ◌∙◌}
 use native.Mathlib.Omega.{arith}
-use Rattle.std.specs.Prelude.{Err}
 use Rattle.std.proofs.lemmas.Grind.{common_steps}
-use Rattle.records.specs.Outcome.{outcome, first_refusal}
 use Rattle.decide.proofs.DecisionLaws.{query_refused, view_refused}
 use Rattle.decide.proofs.check.check.Goals as goal
 

@@ -1,5 +1,4 @@
 -- A clash is held; otherwise the start of the candidate decides (VerdictLaws).
-use mathlib.Core.Path.{sym, ◌∙◌}
 use Rattle.decide.proofs.VerdictLaws.{clash_is_held, told_held, verdict_held, listable, told_by, verdict_by}
 use Rattle.decide.proofs.verdict.answer_of.Goals as goal
 

@@ -25,11 +25,10 @@ facts-n-requires g c =
     }
 
 pub shared_whole_as_front-answer_by : goal.shared_whole_as_front-answer_by
-shared_whole_as_front-answer_by g c =
-    (
-      count_inside c.requires.listable (rw c.signature_of.ensures at c.allow-s.ensures) c.facts-n.ensures c.requires.room,
-      omega (arith, c.requires.few),
-    )
+shared_whole_as_front-answer_by g c = (
+  count_inside c.requires.listable (rw c.signature_of.ensures at c.allow-s.ensures) c.facts-n.ensures c.requires.room,
+  omega (arith, c.requires.few),
+)
 
 pub answer_by-requires : goal.answer_by-requires
 answer_by-requires g c =
