@@ -1,6 +1,5 @@
 // A catalogue of views: which are held by which, and their groups in order.
-ghost use Rattle.std.specs.Prelude.{◌≡◌};
-ghost use Rattle.bikuvoa_c.specs.Catalogued.{CataloguedTo, Cataloguing};
+ghost use Rattle.bikuvoa_c.specs.Catalogued.{Cataloguing, CataloguedTo};
 
 use c_answers::given::give;
 use catalogue::arrange::arrange;
@@ -16,7 +15,7 @@ fn catalogued(
     rows: &mut [u16],
     order: &mut [u16],
 ) -> Result<u64, Refusal>
-    ensures { Cataloguing schema.now views.now rows.old order.old result rows.new order.new }
+    ensures { Cataloguing schema.now views.now rows.old order.old rows.new order.new result }
 {
     check(schema, views)?;
     if (rows.len() < MAX_VIEWS) | (order.len() < MAX_VIEWS) {

@@ -16,12 +16,7 @@ pub extern "C" fn bikuvoa_check_concept(
 ) -> u16
     ensures { GivenTo (λ x. x) (plain_check schema.now concept.now) (record { classes = classes.old; attributes = attributes.old; count = named.old }) result (record { classes = classes.new; attributes = attributes.new; count = named.new }) }
 {
-    give_named(
-        check::<Plain>(schema, concept),
-        classes,
-        attributes,
-        named,
-    )
+    give_named(check::<Plain>(schema, concept), classes, attributes, named)
 }
 
 #[unsafe(no_mangle)]
