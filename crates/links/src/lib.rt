@@ -54,6 +54,8 @@ fn count_by_second(s: Signature, concept: &[u16], state: &[u16], attribute: usiz
     total(&counts, objects(state))
 }
 
+// The two entries share their check. What is still alike is shorter than a function that takes what counts as a closure.
+
 // For each selected object, how many values of the attribute it has, summed.
 #[tactic(auto, using(crate::proofs::CheckedLaws::countable), unfolding(records::specs::Outcome::outcome, records::specs::Outcome::first_refusal))]
 pub fn by_first(
