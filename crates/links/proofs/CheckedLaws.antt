@@ -4,17 +4,14 @@ use Prim.Native.Nat.{ℕ}
 use mathlib.Core.List.{List}
 use mathlib.Core.Path.{◌≡◌, refl}
 use native.Mathlib.Omega.{arith}
-use Rattle.std.specs.Prelude.{Option, Some, None, Result, Ok, Err}
+use Rattle.std.specs.Prelude.{Option, Some, None, Ok, Err}
 use Rattle.std.proofs.lemmas.Grind.{common_steps}
 use Rattle.records.specs.declared.schema.Signature.{Signature}
-use Rattle.records.specs.declared.named.Named.{Named}
 use Rattle.records.specs.declared.refusal.Refusal.{Refusal}
-use Rattle.records.specs.Layout.{query_steps, no_marks}
+use Rattle.records.specs.Layout.{no_marks}
 use Rattle.records.specs.Marks.{allowing}
 use Rattle.records.specs.SchemaRecord.{signature_of}
 use Rattle.records.specs.SchemaRefusal.{schema_answer}
-use Rattle.records.specs.ConceptRefusal.{concept_answer}
-use Rattle.records.specs.StateRefusal.{state_answer}
 use Rattle.records.specs.Outcome.{first_refusal, refused_or, outcome}
 use Rattle.records.proofs.AcceptedLaws.{passes_1, signature_few}
 use Rattle.records.proofs.OutcomeLaws.{Passed, first_passed, schema_signature, passed_schema, passed_concept, passed_record, passed_attribute}

@@ -19,10 +19,7 @@ use records::state::{ATTRIBUTE_KINDS, objects};
 mod counts;
 
 // What both counts check before they begin; the state's refusals come before the attribute's.
-#[tactic(auto,
-    using(std::proofs::lemmas::Grind::common_steps, crate::proofs::CheckedLaws::declared_by),
-    unfolding(records::specs::Outcome::outcome, records::specs::Outcome::first_refusal, records::specs::Outcome::refusal_12)
-)]
+#[tactic(auto, using(std::proofs::lemmas::Grind::common_steps, crate::proofs::CheckedLaws::declared_by), unfolding(records::specs::Outcome::outcome, records::specs::Outcome::first_refusal, records::specs::Outcome::refusal_12))]
 fn check(
     schema: &[u16],
     concept: &[u16],
@@ -57,11 +54,10 @@ fn count_by_second(s: Signature, concept: &[u16], state: &[u16], attribute: usiz
     total(&counts, objects(state))
 }
 
+// The two entries share their check. What is still alike is shorter than a function that takes what counts as a closure.
+
 // For each selected object, how many values of the attribute it has, summed.
-#[tactic(auto,
-    using(crate::proofs::CheckedLaws::countable),
-    unfolding(records::specs::Outcome::outcome, records::specs::Outcome::first_refusal)
-)]
+#[tactic(auto, using(crate::proofs::CheckedLaws::countable), unfolding(records::specs::Outcome::outcome, records::specs::Outcome::first_refusal))]
 pub fn by_first(
     schema: &[u16],
     concept: &[u16],
@@ -76,10 +72,7 @@ pub fn by_first(
 }
 
 // For each object, how many selected objects have it as a value of the attribute, summed.
-#[tactic(auto,
-    using(crate::proofs::CheckedLaws::countable),
-    unfolding(records::specs::Outcome::outcome, records::specs::Outcome::first_refusal)
-)]
+#[tactic(auto, using(crate::proofs::CheckedLaws::countable), unfolding(records::specs::Outcome::outcome, records::specs::Outcome::first_refusal))]
 pub fn by_second(
     schema: &[u16],
     concept: &[u16],

@@ -15,5 +15,5 @@ pub returns : goal.returns
 returns c =
     let test = λ (i : ℕ). bit_at c.args.set.now (object_at c.args.state.now i) in
     count_from_yields_List _ _ c.count.ensures.ran
-        (YieldsList-from_filter _ test (YieldsList-from_range _ _ _ c.filter.ensures.source refl) c.filter.ensures.closure (λ x b q k. search rules))
+    (YieldsList-from_filter _ test (YieldsList-from_range _ _ _ c.filter.ensures.source refl) c.filter.ensures.closure (λ x b q k. search rules))
     ∙ length-filter test _ ∙ count_of_range test _ _ ∙ links_between _ _ _ c.first_of_kind-from.ensures c.first_of_kind-to.ensures

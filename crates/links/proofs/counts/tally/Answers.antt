@@ -32,8 +32,8 @@ loop-i-preserved c =
       omega arith,
       omega (arith, c.loop-i-test.true, c.first_of_kind-to.ensures.within),
       rw c.from.ensures
-      (tallied_more _ _ _ c.loop-i.invariant.2 second (second_few c.requires c.first_of_kind-to.ensures c.loop-i-test.true second)
-      (link_here _ _ _ c.first_of_kind-from.ensures c.first_of_kind-to.ensures c.loop-i.invariant.0 c.loop-i-test.true c.is_link.ensures)),
+          (tallied_more _ _ _ c.loop-i.invariant.2 second (second_few c.requires c.first_of_kind-to.ensures c.loop-i-test.true second)
+          (link_here _ _ _ c.first_of_kind-from.ensures c.first_of_kind-to.ensures c.loop-i.invariant.0 c.loop-i-test.true c.is_link.ensures)),
     )
 
 pub returns : goal.returns
