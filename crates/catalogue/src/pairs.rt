@@ -13,6 +13,7 @@ use decide::held::held;
 use std::array::from_fn;
 
 // The row, with all of `above` if view `i` is in it.
+#[tactic(auto, unfolding(crate::specs::Helpers::joined))]
 fn joined(row: u16, i: usize, above: u16) -> u16
     requires { i < max_views }
     ensures { result ≡ joined_to i above row }
