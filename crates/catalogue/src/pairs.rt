@@ -27,8 +27,8 @@ fn add_held(rows: &mut [u16], n: usize, i: usize, j: usize)
     ensures { Joined n i j rows.old rows.new }
 {
     let above = rows[j];
-    for a in 0..n {
-        rows[a] = joined(rows[a], i, above);
+    for row in &mut rows[..n] {
+        *row = joined(*row, i, above);
     }
 }
 
