@@ -1,5 +1,4 @@
 -- The rows are changed one after the other (FilledLaws).
-use Prim.Native.Nat.{◌≤◌}
 use mathlib.Core.Path.{◌≡◌}
 use lib.ListN.{get_or}
 use Rattle.catalogue.specs.Helpers.{joined}
