@@ -13,6 +13,7 @@ use decide::held::held;
 use std::array::from_fn;
 
 // The row, with all of `above` if view `i` is in it.
+#[tactic(auto, unfolding(crate::specs::Helpers::joined))]
 fn joined(row: u16, i: usize, above: u16) -> u16
     requires { i < max_views }
     ensures { result ≡ joined_to i above row }
@@ -26,8 +27,8 @@ fn add_held(rows: &mut [u16], n: usize, i: usize, j: usize)
     ensures { Joined n i j rows.old rows.new }
 {
     let above = rows[j];
-    for a in 0..n {
-        rows[a] = joined(rows[a], i, above);
+    for row in &mut rows[..n] {
+        *row = joined(*row, i, above);
     }
 }
 

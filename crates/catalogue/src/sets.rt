@@ -20,6 +20,7 @@ pub fn only_if(test: bool, view: usize) -> u16
 }
 
 // The two sets share a view.
+#[tactic(auto, unfolding(crate::specs::Helpers::meets))]
 pub fn meets(a: u16, b: u16) -> bool
     ensures { result ≡ meets_in a b }
 {

@@ -11,9 +11,6 @@ use Rattle.catalogue.proofs.arrange.arrange.Goals as goal
 pub loop-k-init : goal.loop-k-init
 loop-k-init c = (omega arith, placed_none _ _ _ (length-replicate {A = ℕ} max_views 0) (λ k h. get_or-replicate {A = ℕ} max_views k 0 0 h))
 
-pub next-requires : goal.next-requires
-next-requires c = c.requires
-
 pub returns-in_default : goal.returns-in_default
 returns-in_default c =
     let z = c.loop-k.invariant.1 in
@@ -23,9 +20,6 @@ pub group-views-requires : goal.group-views-requires
 group-views-requires c =
     let found = placed_found _ _ c.loop-k.invariant.1 (sym c.next.ensures ∙ c.in-Some.is) in
     (c.requires.0, c.requires.1, omega (arith, c.requires.1, found.1))
-
-pub bounds-groups-k : goal.bounds-groups-k
-bounds-groups-k c = omega (arith, c.requires.1)
 
 pub loop-k-preserved : goal.loop-k-preserved
 loop-k-preserved c =

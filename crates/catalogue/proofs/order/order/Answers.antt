@@ -15,9 +15,6 @@ returns-in_err-check c =
 pub rows-rows-requires : goal.rows-rows-requires
 rows-rows-requires c = checked_accepted _ _ (sym c.check.ensures ∙ c.in_ok-check.was)
 
-pub slice_bounds-arrange-end : goal.slice_bounds-arrange-end
-slice_bounds-arrange-end c = sym c.rows-rows.ensures.size
-
 pub arrange-requires : goal.arrange-requires
 arrange-requires c =
     let ok = sym c.check.ensures ∙ c.in_ok-check.was in

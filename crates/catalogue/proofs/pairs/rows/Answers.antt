@@ -9,6 +9,3 @@ begin-rows-requires c = omega (arith, c.views.ensures.value, few_views _ _ c.req
 pub settle_all-requires : goal.settle_all-requires
 settle_all-requires c =
     alone_known _ _ c.requires _ (rw c.views.ensures.value at c.begin-rows.ensures)
-
-pub returns : goal.returns
-returns c = c.settle_all.ensures

@@ -19,16 +19,10 @@ has-requires c =
 pub returns-then-has : goal.returns-then-has
 returns-then-has c = record { grown = grown_same _ _ _ _ c.requires.0; told = or_left _ _ (sym c.has.ensures ∙ c.if-has.true) }
 
-pub ask-requires : goal.ask-requires
-ask-requires c = c.requires
-
 pub add_held-requires : goal.add_held-requires
 add_held-requires c =
     let few = few_views _ _ c.requires.0.accepted in
     (c.requires.0.size, omega (arith, few, c.views.ensures.value), omega (arith, few, c.requires.1), omega (arith, few, c.requires.2))
-
-pub shape_of-rows-then-ask : goal.shape_of-rows-then-ask
-shape_of-rows-then-ask c = c.add_held.ensures.size ∙ sym c.requires.0.size
 
 pub returns-then-ask : goal.returns-then-ask
 returns-then-ask c = let z = rw c.views.ensures.value at c.add_held.ensures in

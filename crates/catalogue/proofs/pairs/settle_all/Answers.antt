@@ -1,5 +1,5 @@
 -- The views passed are compared with each other (ComparedLaws).
-use mathlib.Core.Path.{sym, ◌∙◌}
+use mathlib.Core.Path.{◌∙◌}
 use native.Mathlib.Nat.{le_antisymm}
 use native.Mathlib.Omega.{arith}
 use Rattle.catalogue.proofs.ComparedLaws.{met_none, met_more, met_all}
@@ -8,18 +8,9 @@ use Rattle.catalogue.proofs.pairs.settle_all.Goals as goal
 pub loop-j-init : goal.loop-j-init
 loop-j-init c = (omega arith, met_none _ _ c.requires)
 
-pub compare-requires : goal.compare-requires
-compare-requires c = (c.loop-j.invariant.1.known, omega (arith, c.views-n.ensures.value))
-
 pub loop-j-preserved : goal.loop-j-preserved
 loop-j-preserved c =
     (omega arith, met_more _ _ (omega (arith, c.views-n.ensures.value)) c.loop-j.invariant.1 c.compare.ensures.grown c.compare.ensures.told)
-
-pub shape_of-rows : goal.shape_of-rows
-shape_of-rows c = c.loop-j.invariant.1.known.size ∙ sym c.requires.size
-
-pub shape_of-opens : goal.shape_of-opens
-shape_of-opens c = c.loop-j.invariant.1.known.opens_size ∙ sym c.requires.opens_size
 
 pub returns : goal.returns
 returns c =

@@ -14,12 +14,6 @@ returns-in_err-check c =
 pub rows-rows-requires : goal.rows-rows-requires
 rows-rows-requires c = checked_accepted _ _ (sym c.check.ensures ∙ c.in_ok-check.was)
 
-pub slice_bounds-table-end : goal.slice_bounds-table-end
-slice_bounds-table-end c = sym c.rows-rows.ensures.size
-
-pub table-requires : goal.table-requires
-table-requires c = c.rows-rows.ensures.size
-
 pub returns : goal.returns
 returns c =
     verdicts_decided _ _ (sym c.check.ensures ∙ c.in_ok-check.was) _ c.rows-rows.ensures _
