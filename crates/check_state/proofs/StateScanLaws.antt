@@ -10,10 +10,11 @@ use native.Mathlib.Nat.{le_of_eq, le_antisymm}
 use native.Mathlib.Numerals.{add-one, sub-one}
 use native.Mathlib.Decide.{ℕ_discrete, dec_lt}
 use native.Mathlib.Omega.{arith}
-use borrow.Author.Tests.{lt-ltb, le-ltb, le-leb, eq-eqb, ne_eqb, leb-true, eqb-true, not-false}
+use borrow.Author.Tests.{lt-ltb, le-ltb, le-leb, eq-eqb, ne_eqb, leb-true, ltb-true, eqb-true, not-false}
 use lib.Dec.{eqb, ltb, leb}
 use lib.ListN.{length, get_or, set, length-set, replicate, get_or-replicate, get_or-eq_default}
 use lib.Seq.{get_or-set_same, get_or-set_other}
+use Rattle.std.specs.Prelude.{Some, None}
 use Rattle.records.specs.declared.schema.Signature.{Signature}
 use Rattle.records.specs.Finite.{any, all, count}
 use Rattle.records.specs.Layout.{state_layout, entries, constant_kinds, fact_kinds, max_constants, max_marks}
@@ -22,7 +23,7 @@ use Rattle.records.specs.StateRefusal.{ascends, descends, faulty_fact, names_at,
 use Rattle.check_state.specs.Scan.{last_passes, follows_at, slots, slot_of, named_in, misnamed_at, misnamed, mismarked_at, mismarked}
 use Rattle.records.specs.Marks.{allows}
 use Rattle.records.specs.State.{clashing, repeats}
-use Rattle.records.proofs.General.BoolLaws.{or_false_left, or_left, or_right, or_true_cases, and_left, and_both, not_both}
+use Rattle.records.proofs.General.BoolLaws.{or_false_left, or_left, or_right, or_true_cases, and_left, and_right, and_both, not_both, eqb_same}
 use Rattle.records.proofs.OrderLaws.{class_first}
 use Rattle.records.proofs.FactLaws.{name_is, mark_names, fact_kind, fact_object}
 use Rattle.records.proofs.General.FiniteLaws.{count_le, any_zero, any_still, any_of_lem, any_none, any_same, all_more, count_more, count_same, count_found, none_count}
@@ -105,23 +106,28 @@ last_found w a (suc n) e = pick (names_at w a n) refl (last_found w a n)
         let (j, l, p, r) = h (⊎_elim (λ u. u) (λ u. absurd (false≢true (sym q ∙ u))) (or_true_cases (any n (names_at w a)) (names_at w a n) e)) in
         (j, omega arith, p, r)
 
-slot_is : (k a : ℕ) → a < slots → eqb (slot_of k) a ≡ eqb k (constant_kinds + a)
-slot_is k a l = pick (leb constant_kinds k && ltb k fact_kinds) refl
+-- a fact names the constant or mark whose slot its kind has, and none where it has no slot
+slot_within : (k at : ℕ) → slot_of k ≡ Some at → (constant_kinds ≤ k) × (k < fact_kinds) × (at ≡ k - constant_kinds)
+slot_within k at = pick (leb constant_kinds k && ltb k fact_kinds) refl
   where
-    pick : (t : Bool) → (leb constant_kinds k && ltb k fact_kinds) ≡ t → eqb (cond t (k - constant_kinds) slots) a ≡ eqb k (constant_kinds + a)
-    pick true p =
-        let low : constant_kinds ≤ k = leb-true constant_kinds k (and_left _ _ p) in
-        same (ℕ_discrete (k - constant_kinds) a)
-      where
-        same : Dec (k - constant_kinds ≡ a) → eqb (k - constant_kinds) a ≡ eqb k (constant_kinds + a)
-        same (yes e) = rw (eq-eqb (k - constant_kinds) a e, eq-eqb k (constant_kinds + a) (omega (arith, leb-true constant_kinds k (and_left _ _ p))))
-        same (no n) = rw (ne_eqb (k - constant_kinds) a n, ne_eqb k (constant_kinds + a) (λ e. n (omega arith)))
-    pick false p =
-        rw (
-          ne_eqb slots a (λ e. omega arith),
-          ne_eqb k (constant_kinds + a) (λ e. not_both (leb constant_kinds k && ltb k fact_kinds)
-              (and_both _ _ (le-leb constant_kinds k (omega arith)) (lt-ltb k fact_kinds (omega arith))) p),
-        )
+    pick : (t : Bool) → (leb constant_kinds k && ltb k fact_kinds) ≡ t → cond t (Some (k - constant_kinds)) None ≡ Some at → (constant_kinds ≤ k) × (k < fact_kinds) × (at ≡ k - constant_kinds)
+    pick true p e = (leb-true constant_kinds k (and_left _ _ p), ltb-true k fact_kinds (and_right _ _ p), grind (arith, e))
+    pick false p e = grind (arith, e)
+
+pub slot_below : (k at : ℕ) → slot_of k ≡ Some at → at < slots
+slot_below k at e = let (low, high, is) = slot_within k at e in omega (arith, low, high, is)
+
+slot_is : (k at a : ℕ) → slot_of k ≡ Some at → eqb at a ≡ eqb k (constant_kinds + a)
+slot_is k at a e = let (low, high, is) = slot_within k at e in eqb_same at a k (constant_kinds + a) (λ q. omega (arith, low, is, q)) (λ q. omega (arith, low, is, q))
+
+slot_none : (k a : ℕ) → slot_of k ≡ None → a < slots → eqb k (constant_kinds + a) ≡ false
+slot_none k a e m = pick (leb constant_kinds k && ltb k fact_kinds) refl e
+  where
+    pick : (t : Bool) → (leb constant_kinds k && ltb k fact_kinds) ≡ t → cond t (Some (k - constant_kinds)) None ≡ None → eqb k (constant_kinds + a) ≡ false
+    pick true p e = grind (arith, e)
+    pick false p e =
+        ne_eqb k (constant_kinds + a) (λ q. not_both (leb constant_kinds k && ltb k fact_kinds)
+        (and_both _ _ (le-leb constant_kinds k (omega (arith, q))) (lt-ltb k fact_kinds (omega (arith, q, m)))) p)
 
 set_slot : (l : List ℕ) (at a v : ℕ) → at < length l → get_or (set l at v) a 0 ≡ cond (eqb at a) v (get_or l a 0)
 set_slot l at a v h = pick (ℕ_discrete at a)
@@ -134,28 +140,31 @@ set_slot l at a v h = pick (ℕ_discrete at a)
 pub record Kept (s : Signature) (w : List ℕ) (i : ℕ) (asc : Bool) (counts named : List ℕ) : Type 0 where
   pub faultless : any i (faulty_fact s w) ≡ false
   pub order : asc ≡ all i (follows_at w)
-  pub counters : length counts ≡ suc slots
-  pub places : length named ≡ suc slots
+  pub counters : length counts ≡ slots
+  pub places : length named ≡ slots
   pub small : (k : ℕ) → get_or counts k 0 ≤ i
   pub counted : (a : ℕ) → a < slots → get_or counts a 0 ≡ count i (names_at w a)
   pub last : (a : ℕ) → a < slots → get_or named a 0 ≡ last_object w a i
 
 module _ (s : Signature) (w : List ℕ) where
-  pub kept_more : {i : ℕ} {asc : Bool} {counts named : List ℕ} → Kept s w i asc counts named → faulty_fact s w i ≡ false → (at : ℕ) → at ≡ slot_of (kind_at w i) → at < suc slots → Kept s w (i + 1) (asc && follows_at w i) (set counts at (get_or counts at 0 + 1)) (set named at (object_at w i))
+  pub kept_more : {i : ℕ} {asc : Bool} {counts named : List ℕ} → Kept s w i asc counts named → faulty_fact s w i ≡ false → (at : ℕ) → slot_of (kind_at w i) ≡ Some at → Kept s w (i + 1) (asc && follows_at w i) (set counts at (get_or counts at 0 + 1)) (set named at (object_at w i))
   unfolding last_object
-  kept_more {i} {asc} {counts} {named} z ok at e l =
+  kept_more {i} {asc} {counts} {named} z ok at e =
       record {
         faultless = any_still (faulty_fact s w) i z.faultless ok;
         order = rw (all_more (follows_at w) i, z.order);
         counters = length-set counts at _ ∙ z.counters;
         places = length-set named at _ ∙ z.places;
         small = λ k. rw (set_slot counts at k (get_or counts at 0 + 1) (rw z.counters l)) (grown (eqb at k) (z.small k) (z.small at));
-        counted = λ a m. rw (set_slot counts at a (get_or counts at 0 + 1) (rw z.counters l), count_more (names_at w a) i, ← (is a m)) (more a m (ℕ_discrete at a));
-        last = λ a m. rw (set_slot named at a (object_at w i) (rw z.places l), add-one, ← (is a m), z.last a m);
+        counted = λ a m. rw (set_slot counts at a (get_or counts at 0 + 1) (rw z.counters l), count_more (names_at w a) i, ← (is a)) (more a m (ℕ_discrete at a));
+        last = λ a m. rw (set_slot named at a (object_at w i) (rw z.places l), add-one, ← (is a), z.last a m);
       }
     where
-      is : (a : ℕ) → a < slots → eqb at a ≡ names_at w a i
-      is a m = rw e (slot_is (kind_at w i) a m)
+      l : at < slots
+      l = slot_below (kind_at w i) at e
+
+      is : (a : ℕ) → eqb at a ≡ names_at w a i
+      is a = slot_is (kind_at w i) at a e
 
       grown : (t : Bool) {k : ℕ} → k ≤ i → get_or counts at 0 ≤ i → cond t (get_or counts at 0 + 1) k ≤ i + 1
       grown true p q = omega arith
@@ -165,7 +174,20 @@ module _ (s : Signature) (w : List ℕ) where
       more a m (yes q) = rw (eq-eqb at a q, q, z.counted a m) (omega arith)
       more a m (no n) = rw (ne_eqb at a n) (z.counted a m)
 
-  pub kept_none : Kept s w 0 true (replicate (suc slots) 0) (replicate (suc slots) 0)
+  pub kept_past : {i : ℕ} {asc : Bool} {counts named : List ℕ} → Kept s w i asc counts named → faulty_fact s w i ≡ false → slot_of (kind_at w i) ≡ None → Kept s w (i + 1) (asc && follows_at w i) counts named
+  unfolding last_object
+  kept_past {i} {asc} {counts} {named} z ok e =
+      record {
+        faultless = any_still (faulty_fact s w) i z.faultless ok;
+        order = rw (all_more (follows_at w) i, z.order);
+        counters = z.counters;
+        places = z.places;
+        small = λ k. omega (arith, z.small k);
+        counted = λ a m. rw (count_more (names_at w a) i, slot_none (kind_at w i) a e m) (z.counted a m);
+        last = λ a m. rw (add-one, slot_none (kind_at w i) a e m) (z.last a m);
+      }
+
+  pub kept_none : Kept s w 0 true (replicate slots 0) (replicate slots 0)
   unfolding all count last_object
   kept_none =
       record {
@@ -178,15 +200,15 @@ module _ (s : Signature) (w : List ℕ) where
         last = λ a m. zero_at a m;
       }
     where
-      zero_at : (k : ℕ) → k < slots → ◌≡◌ {A = ℕ} (get_or (replicate (suc slots) 0) k 0) 0
-      zero_at k m = get_or-replicate (suc slots) k 0 0 (omega arith)
+      zero_at : (k : ℕ) → k < slots → ◌≡◌ {A = ℕ} (get_or (replicate slots 0) k 0) 0
+      zero_at k m = get_or-replicate slots k 0 0 (omega arith)
 
-      zeros : (k : ℕ) → get_or (replicate (suc slots) 0) k 0 ≤ 0
-      zeros k = le_of_eq (pick (dec_lt k (suc slots)))
+      zeros : (k : ℕ) → get_or (replicate slots 0) k 0 ≤ 0
+      zeros k = le_of_eq (pick (dec_lt k slots))
         where
-          pick : Dec (k < suc slots) → ◌≡◌ {A = ℕ} (get_or (replicate (suc slots) 0) k 0) 0
-          pick (yes l) = get_or-replicate (suc slots) k 0 0 l
-          pick (no n) = get_or-eq_default (replicate (suc slots) 0) 0 {n = k} (omega arith)
+          pick : Dec (k < slots) → ◌≡◌ {A = ℕ} (get_or (replicate slots 0) k 0) 0
+          pick (yes l) = get_or-replicate slots k 0 0 l
+          pick (no n) = get_or-eq_default (replicate slots 0) 0 {n = k} (omega arith)
 
   pub kept_all : {i n : ℕ} {asc : Bool} {counts named : List ℕ} → Kept s w i asc counts named → i ≤ n → n ≤ i → n ≡ entries state_layout w
       → Kept s w (entries state_layout w) asc counts named

@@ -1,6 +1,6 @@
 -- What the check of a state keeps while it scans the facts, as plain functions: whether they ascend, and the constants' and marks'
 -- objects. StateScanLaws of proofs/ ties them to the refusals.
-use Rattle.std.specs.Prelude.{ℕ, zero, suc, ◌+◌, ◌-◌, List, Bool, true, cond, not, ◌&&◌, ◌||◌, eqb, ltb, leb, get_or}
+use Rattle.std.specs.Prelude.{ℕ, zero, suc, ◌+◌, ◌-◌, List, Bool, true, cond, not, ◌&&◌, ◌||◌, eqb, ltb, leb, get_or, Option, Some, None}
 use Rattle.records.specs.declared.schema.Signature.{Signature}
 use Rattle.records.specs.Finite.{any}
 use Rattle.records.specs.State.{repeats}
@@ -17,13 +17,13 @@ last_passes f (suc i) = f i
 abbrev pub follows_at : List ℕ → ℕ → Bool
 follows_at w i = last_passes (ascends w) i
 
--- the slots of constants and marks, the marks after the constants; one more is of all other facts
+-- the slots of constants and marks, the marks after the constants
 abbrev pub slots : ℕ
 slots = max_constants + max_marks
 
--- the slot of the constant or mark to which a fact of this kind gives its object, or one past the last
-abbrev pub slot_of : ℕ → ℕ
-slot_of k = cond (leb constant_kinds k && ltb k fact_kinds) (k - constant_kinds) slots
+-- the slot of the constant or mark to which a fact of this kind gives its object
+abbrev pub slot_of : ℕ → Option ℕ
+slot_of k = cond (leb constant_kinds k && ltb k fact_kinds) (Some (k - constant_kinds)) None
 
 -- the object that was last seen for constant a
 abbrev pub named_in : List ℕ → ℕ → ℕ

@@ -1,7 +1,7 @@
 // The check of a state record: refusals 7, 8, 9, 15 and 10.
 #![tactic(auto)]
 
-ghost use Rattle.std.specs.Prelude.{◌||◌, false, ◌≡◌, suc, ◌<◌, ◌^◌, length};
+ghost use Rattle.std.specs.Prelude.{◌||◌, false, ◌≡◌, ◌<◌, ◌^◌, length};
 ghost use Rattle.records.specs.StateRecord.{is_class_fact};
 ghost use Rattle.records.specs.StateRefusal.{refusal_7, refusal_9, refusal_15, declares_kind, suits_kind, faulty_fact, ascends as ascends_at, state_answer};
 ghost use Rattle.check_state.specs.Scan.{last_passes, follows_at, slots, slot_of, named_in, misnamed as misnamed_in, mismarked as mismarked_in};
@@ -16,8 +16,8 @@ use records::state::{
     facts, is_class_fact, kind_at, object_at, objects, state_layout,
 };
 
-// A place for each constant and mark to which a fact can give its object, and one more for all other facts.
-const SLOTS: usize = FACT_KINDS - CONSTANT_KINDS + 1;
+// A place for each constant and mark to which a fact can give its object.
+const SLOTS: usize = FACT_KINDS - CONSTANT_KINDS;
 
 fn declares_kind(s: Signature, kind: usize) -> bool
     ensures { result ≡ declares_kind s kind }
@@ -95,20 +95,20 @@ fn bad_class_facts(words: &[u16]) -> bool
     (n < end) | !class_up_to(words, end) | ((end < n) & is_class_fact(words, end))
 }
 
-// The constant or mark to which a fact of this kind gives its object, or the place of all other facts.
-fn slot(kind: usize) -> usize
-    ensures { (result ≡ slot_of kind) × (result < suc slots) }
+// The place of the constant or mark to which a fact of this kind gives its object.
+fn slot(kind: usize) -> Option<usize>
+    ensures { result ≡ slot_of kind }
 {
     if (CONSTANT_KINDS <= kind) & (kind < FACT_KINDS) {
-        kind - CONSTANT_KINDS
+        Some(kind - CONSTANT_KINDS)
     } else {
-        FACT_KINDS - CONSTANT_KINDS
+        None
     }
 }
 
 // Constant `a` clashes with an earlier one.
 fn repeats(s: Signature, named: &[usize; SLOTS], a: usize) -> bool
-    requires { (a < suc slots) × (length named.now ≡ suc slots) }
+    requires { (a < slots) × (length named.now ≡ slots) }
     ensures { result ≡ repeats_in s (named_in named.now) a }
 {
     (0..a).any(|b| differ(s, a, b) & (named[b] == named[a]))
@@ -116,10 +116,10 @@ fn repeats(s: Signature, named: &[usize; SLOTS], a: usize) -> bool
 
 // Refusal 10 of the constants, from how many facts name each and the object of the last of them.
 fn misnamed(s: Signature, counts: &[usize; SLOTS], named: &[usize; SLOTS]) -> bool
-    requires { (length counts.now ≡ suc slots) × (length named.now ≡ suc slots) }
+    requires { (length counts.now ≡ slots) × (length named.now ≡ slots) }
     ensures { result ≡ misnamed_in s counts.now named.now }
 {
-    if FACT_KINDS - CONSTANT_KINDS < s.constants {
+    if SLOTS < s.constants {
         return true;
     }
     (0..s.constants).any(|a| (counts[a] != 1) | repeats(s, named, a))
@@ -127,7 +127,7 @@ fn misnamed(s: Signature, counts: &[usize; SLOTS], named: &[usize; SLOTS]) -> bo
 
 // Refusal 10 of the marks, from how many facts give each its object.
 fn mismarked(s: Signature, counts: &[usize; SLOTS]) -> bool
-    requires { length counts.now ≡ suc slots }
+    requires { length counts.now ≡ slots }
     ensures { result ≡ mismarked_in s counts.now }
 {
     (0..MAX_MARKS).any(|k| allows(s, k) & (counts[MARK_KINDS - CONSTANT_KINDS + k] != 1))
@@ -135,7 +135,7 @@ fn mismarked(s: Signature, counts: &[usize; SLOTS]) -> bool
 
 // Refusal 10.
 fn bad_names(s: Signature, counts: &[usize; SLOTS], named: &[usize; SLOTS]) -> bool
-    requires { (length counts.now ≡ suc slots) × (length named.now ≡ suc slots) }
+    requires { (length counts.now ≡ slots) × (length named.now ≡ slots) }
     ensures { result ≡ (misnamed_in s counts.now named.now || mismarked_in s counts.now) }
 {
     misnamed(s, counts, named) | mismarked(s, counts)
@@ -151,6 +151,7 @@ fn bad_shape(words: &[u16]) -> bool
 }
 
 // The first refusal that applies, or nothing.
+#[tactic(auto, using(crate::proofs::StateScanLaws::slot_below))]
 pub fn check_state(s: Signature, words: &[u16]) -> Result<(), Refusal>
     ensures { result ≡ state_answer s words.now }
 {
@@ -166,9 +167,10 @@ pub fn check_state(s: Signature, words: &[u16]) -> Result<(), Refusal>
             return Err(Refusal::StateFact);
         }
         ascending = ascending & follows(words, i);
-        let at = slot(kind_at(words, i));
-        counts[at] += 1;
-        named[at] = object_at(words, i);
+        if let Some(at) = slot(kind_at(words, i)) {
+            counts[at] += 1;
+            named[at] = object_at(words, i);
+        }
     }
     if !ascending {
         return Err(Refusal::StateOrder);

@@ -30,11 +30,10 @@ use Rattle.paths.specs.declared.steps.Step.{Step}
 use Rattle.paths.specs.declared.steps.Ends.{Ends}
 use Rattle.paths.specs.declared.relation.Bases.{Bases}
 use Rattle.rows.specs.Selection.{set_words}
-use Rattle.rows.specs.Rows.{SharedRow}
+use Rattle.rows.specs.Rows.{Row}
 use Rattle.paths.specs.Steps.{origin_at, target_at, lands}
 use Rattle.rows.specs.Blocks.{block_words, block_bits, cell}
 use Rattle.paths.specs.Relation.{Outside, Room, Cleared, Diagonal, Followed, carries, Stepped, Gathered, Shared}
-use Rattle.rows.proofs.RowLaws.{row_same}
 use Rattle.rows.proofs.BlockLaws.{row_fits, row_end, row_one, block_word}
 use Rattle.paths.proofs.RoomLaws.{room_words}
 use Rattle.paths.proofs.StepLaws.{object_end, end_few, Facing, facing_within}
@@ -234,7 +233,7 @@ module _ {w : List ℕ} {x : Step} {landings : List ℕ} {a : ℕ} {b : Bases} w
 
   pub stepped_more : {from to i : ℕ} {e : Ends} {set us ws vs : List ℕ} → Facing w from to e x → from ≤ i → i < to → Stepped w x landings a b us i ws
       → Room (objects w) b us
-      → SharedRow landings landings a set
+      → Row landings a set
       → Followed w e set b ws i vs
       → Stepped w x landings a b us (i + 1) vs
   stepped_more {i = i} {us = us} {ws = ws} {vs = vs} f lower upper z room r h =
@@ -262,7 +261,7 @@ module _ {w : List ℕ} {x : Step} {landings : List ℕ} {a : ℕ} {b : Bases} w
           → cell b.blocks vs k o ≡ (cell b.blocks ws k o || lands w x landings a i && (eqb k (b.rel + target_at w x i) && cell b.blocks ws (b.spare + origin_at w x i) o))
       carried k o m =
           h.bits k o m
-          ∙ rw (f.ends, object_end f.ok (not x.backward) i j, object_end f.ok x.backward i j, (row_same landings a r).bits (target_at w x i) (end_few f.ok (not x.backward) i j), eq-eqb (kind_at w i) x.kind (kind_within _ f.first f.last _ lower upper))
+          ∙ rw (f.ends, object_end f.ok (not x.backward) i j, object_end f.ok x.backward i j, r.bits (target_at w x i) (end_few f.ok (not x.backward) i j), eq-eqb (kind_at w i) x.kind (kind_within _ f.first f.last _ lower upper))
 
   -- what the rows held that were cleared for the step is not asked for
   pub stepped_all : {n i to : ℕ} {ws us vs : List ℕ} → n ≡ objects w → Cleared n b ws us

@@ -21,9 +21,9 @@ use Rattle.index.proofs.KindLaws.{kind_before, kind_after, kind_within}
 use Rattle.paths.specs.declared.steps.Step.{Step}
 use Rattle.paths.specs.declared.steps.Ends.{Ends}
 use Rattle.rows.specs.Selection.{set_words}
-use Rattle.rows.specs.Rows.{row_bit, SharedRow}
+use Rattle.rows.specs.Rows.{row_bit, Row, SharedRow}
 use Rattle.paths.specs.Steps.{end_at, target_at, leads_into, ends_from, ends_of, object_in, Followable, Led, Origins}
-use Rattle.rows.proofs.RowLaws.{row_same, row_zero}
+use Rattle.rows.proofs.RowLaws.{row_zero}
 
 -- The ends of a fact are objects of the state.
 
@@ -93,7 +93,7 @@ module _ {w : List ℕ} {x : Step} {landings : List ℕ} {a : ℕ} {into : List 
   -- the row's set and the other are asked for at once
   pub origins_more : {from to i : ℕ} {e : Ends} {row both ws vs : List ℕ} → Facing w from to e x → from ≤ i → i < to
       → Origins w x landings a into i ws
-      → SharedRow landings landings a row
+      → Row landings a row
       → SharedRow row into 0 both
       → Led w e both ws i vs
       → Origins w x landings a into (i + 1) vs
@@ -112,7 +112,7 @@ module _ {w : List ℕ} {x : Step} {landings : List ℕ} {a : ℕ} {into : List 
       shares : bit_at both (target_at w x i) ≡ (row_bit landings a (target_at w x i) && bit_at into (target_at w x i))
       shares =
           s.bits _ few
-          ∙ ap₂ (λ (b c : Bool). b && c) (row_zero row _ ∙ (row_same landings a r).bits _ few) (row_zero into _)
+          ∙ ap₂ (λ (b c : Bool). b && c) (row_zero row _ ∙ r.bits _ few) (row_zero into _)
 
   pub origins_all : {i to : ℕ} {vs : List ℕ} → Origins w x landings a into i vs → KindParts w (x.kind + 1) to to → to ≤ i → i ≤ entries state_layout w
       → Origins w x landings a into (entries state_layout w) vs

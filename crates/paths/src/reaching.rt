@@ -13,7 +13,7 @@ use index::bits::{has, insert};
 use index::kinds::first_of_kind;
 use reading::start_of;
 use records::state::objects;
-use rows::sets::{everything, shared_row};
+use rows::sets::{everything, row, shared_row};
 use rows::sizes::SET_WORDS;
 
 // Fact `i` puts its origin into `out` if its target is in `into`. Few facts are the first of their origin, and of the others
@@ -49,8 +49,8 @@ fn origins(
     let from = first_of_kind(state, step.kind);
     let to = first_of_kind(state, step.kind + 1);
     let ends = ends_of(state, step.backward);
-    let row = shared_row(landings, landings, at);
-    let both = shared_row(&row, into, 0);
+    let landed = row(landings, at);
+    let both = shared_row(&landed, into, 0);
     let mut out = [0u64; SET_WORDS];
     for i in from..to {
         lead(state, ends, &both, &mut out, i);

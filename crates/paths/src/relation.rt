@@ -15,7 +15,7 @@ use index::kinds::first_of_kind;
 use reading::start_of;
 use records::state::objects;
 use rows::blocks::merge;
-use rows::sets::shared_row;
+use rows::sets::row;
 use rows::sizes::{BLOCK_BITS, BLOCK_WORDS, SET_WORDS};
 
 // Where the rows of a relation begin, and those of a spare one, counted in rows of so many blocks.
@@ -82,7 +82,7 @@ fn advance(state: &[u16], step: Step, landings: &[u64], at: usize, rows: &mut [u
     let from = first_of_kind(state, step.kind);
     let to = first_of_kind(state, step.kind + 1);
     let ends = ends_of(state, step.backward);
-    let set = shared_row(landings, landings, at);
+    let set = row(landings, at);
     for i in from..to {
         follow(state, ends, &set, rows, bases, i);
     }

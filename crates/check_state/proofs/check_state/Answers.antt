@@ -1,11 +1,12 @@
 -- The scan keeps the faults, the order and the names of the facts passed (Kept of StateScanLaws).
 use Rattle.std.proofs.lemmas.Bool.{not_from_true}
 use Rattle.records.proofs.General.FiniteLaws.{any_of_lem}
-use Rattle.check_state.proofs.StateScanLaws.{kept_10, kept_8, kept_9, kept_all, kept_more, kept_none}
+use Rattle.check_state.proofs.StateScanLaws.{kept_10, kept_8, kept_9, kept_all, kept_more, kept_none, kept_past}
 use Rattle.records.specs.StateRefusal.{refusal_8, state_answer}
 use Rattle.std.proofs.lemmas.Grind.{common_steps}
 use mathlib.Core.Path.{◌∙◌, sym}
 use native.Mathlib.Omega.{arith}
+use Rattle.check_state.proofs.check_state.Goals.{in-Some, in_default}
 use Rattle.check_state.proofs.check_state.Goals as goal
 
 pub returns-then-bad_shape : goal.returns-then-bad_shape
@@ -25,24 +26,18 @@ returns-then-faulty_fact c =
       any_of_lem _ _ _ c.loop-i-test.true (sym c.faulty_fact.ensures ∙ c.if-faulty_fact.true),
     )
 
-pub bounds-counts-at : goal.bounds-counts-at
-bounds-counts-at c = c.slot-at.ensures.1
-
 pub overflow_add-counts : goal.overflow_add-counts
-overflow_add-counts c = omega (arith, c.loop-i.invariant.1.small c.slot-at.result, c.loop-i.invariant.0, c.facts-n.ensures.word)
-
-pub bounds-counts-at-in-loop-i : goal.bounds-counts-at-in-loop-i
-bounds-counts-at-in-loop-i c = c.slot-at.ensures.1
-
-pub bounds-named-at : goal.bounds-named-at
-bounds-named-at c = c.slot-at.ensures.1
+overflow_add-counts c = omega (arith, c.loop-i.invariant.1.small c.in-Some.at, c.loop-i.invariant.0, c.facts-n.ensures.word)
 
 pub loop-i-preserved : goal.loop-i-preserved
 loop-i-preserved c = (
   omega arith,
-  rw (c.follows-ascending.ensures, c.object_at.ensures)
-      (kept_more _ _ c.loop-i.invariant.1 (sym c.faulty_fact.ensures ∙ c.if-faulty_fact.false) c.slot-at.result
-      (rw (← c.kind_at.ensures) c.slot-at.ensures.0) c.slot-at.ensures.1),
+  elim c.match-slot.branch [
+    | in-Some w ↦ rw (w.counts-is, w.named-is, c.follows-ascending.ensures, w.object_at.ensures)
+        (kept_more _ _ c.loop-i.invariant.1 (sym c.faulty_fact.ensures ∙ c.if-faulty_fact.false) _ (rw (← c.kind_at.ensures) (sym c.slot.ensures ∙ w.in-Some.is)))
+    | in_default w ↦ rw (w.counts-is, w.named-is, c.follows-ascending.ensures)
+        (kept_past _ _ c.loop-i.invariant.1 (sym c.faulty_fact.ensures ∙ c.if-faulty_fact.false) (rw (← c.kind_at.ensures) (sym c.slot.ensures ∙ w.in_default.is)))
+  ],
 )
 
 pub returns-then-not-ascending : goal.returns-then-not-ascending

@@ -241,7 +241,3 @@ pub least_same : (f g : ℕ → Bool) (n : ℕ) → ((i : ℕ) → i < n → f i
 least_same f g n same =
     least_is f n (least n g) (least_le g n) (λ h. same (least n g) h ∙ least_passes g n h)
     (λ i h. same i (omega (arith, least_le g n)) ∙ least_first g n i h)
-
--- a search that keeps whether some number passed
-pub any_turn : (f : ℕ → Bool) (n : ℕ) (b : Bool) → b ≡ any n f → (b || f n) ≡ any (n + 1) f
-any_turn f n b e = ap (λ (t : Bool). t || f n) e ∙ sym (any_more f n)

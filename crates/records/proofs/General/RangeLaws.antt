@@ -1,8 +1,8 @@
--- Chains over a range of numbers, and over a slice by its places, in this repository's own words: what `any`, `all`, `find`,
--- `count`, `sum` and `fold` give is what Finite.antt and Loops.antt say of the numbers below n. Each law takes the call's clause
--- `ran` and what one call of the closure gives.
+-- Chains over a range of numbers, and over a slice by its places, in this repository's own words: what `any`, `find`, `count`,
+-- `sum` and `fold` give is what Finite.antt and Loops.antt say of the numbers below n. Each law takes the call's clause `ran` and
+-- what one call of the closure gives.
 use Prim.Native.Nat.{ℕ, zero, suc, ◌+◌, ◌-◌, ◌<◌}
-use mathlib.Core.Bool.{Bool, true, false, false≢true, cond, ◌||◌, or-false, and-true}
+use mathlib.Core.Bool.{Bool, true, false, false≢true, cond, ◌||◌, or-false}
 use mathlib.Core.Path.{◌≡◌, refl, sym, ap, subst, ◌∙◌}
 use mathlib.Core.List.{List, [], ◌∷◌, ◌++◌, map}
 use native.Mathlib.Decide.{dec_lt}
@@ -11,7 +11,7 @@ use lib.Dec.{ltb}
 use native.Mathlib.Nat.{add-zero, zero-add, sub-zero}
 use native.Mathlib.Omega.{arith}
 use lib.ListN.{length, get_or}
-use Rattle.std.specs.List.{range_with_len, list_any, list_all, find, fold, sum_by, count_by, position_or_len, FoldsTo}
+use Rattle.std.specs.List.{range_with_len, list_any, find, fold, sum_by, count_by, FoldsTo}
 use Rattle.std.specs.Option.{MatchOption, option_or, option_map}
 use Rattle.std.specs.Bool.{⊤}
 use Rattle.std.specs.Fn.{Called, CalledAt}
@@ -27,15 +27,15 @@ use Rattle.std.specs.Slice.Iter.{iter_rest}
 use denote.Param.Members.{Mut}
 use denote.Ref.{Bor}
 use Rattle.std.proofs.lemmas.Iterator.{YieldsList-from_slice, YieldsList-from_range, YieldsList-from_map, maps}
-use Rattle.std.proofs.lemmas.Iterator.Search.{any_from_yields_List, all_from_yields_List, position_from_yields_List, find_from_yields_List}
+use Rattle.std.proofs.lemmas.Iterator.Search.{any_from_yields_List, find_from_yields_List}
 use Rattle.std.proofs.lemmas.Iterator.Consumers.{YieldsList-from_filter, count_from_yields_List, sum_by_from_yields_List, fits_by_from_yields_list, fold_from_yields_List}
 use Rattle.std.specs.Prelude.{Option, Some, None}
 use Rattle.std.proofs.lemmas.List.FromFn.{fill_by_all}
-use Rattle.std.proofs.lemmas.List.Folds.{fold-map, list_all-map, list_any-append, list_all-append, find-append}
-use Rattle.std.proofs.lemmas.List.Sums.{fold_push, sum_by_push, length-filter, position_or_len_is}
-use Rattle.records.specs.Finite.{any, all, count, sum, least}
+use Rattle.std.proofs.lemmas.List.Folds.{fold-map, list_any-append, find-append}
+use Rattle.std.proofs.lemmas.List.Sums.{fold_push, sum_by_push, length-filter}
+use Rattle.records.specs.Finite.{any, count, sum, least}
 use Rattle.records.specs.Helpers.Loops.{upto}
-use Rattle.records.proofs.General.FiniteLaws.{any_found, any_none, least_le, least_first, least_passes}
+use Rattle.records.proofs.General.FiniteLaws.{any_found, any_none, least_first, least_passes}
 
 -- one number more at the end
 range_more : (a n : ℕ) → range_with_len a (suc n) ≡ range_with_len a n ++ (a + n) ∷ []
@@ -49,12 +49,6 @@ unfolding any
 any_of_range f a zero = refl
 any_of_range f a (suc n) =
     ap (list_any f) (range_more a n) ∙ list_any-append f (range_with_len a n) ((a + n) ∷ []) ∙ rw (or-false, any_of_range f a n)
-
-pub all_of_range : (f : ℕ → Bool) (a n : ℕ) → list_all f (range_with_len a n) ≡ all n (λ i. f (a + i))
-unfolding all
-all_of_range f a zero = refl
-all_of_range f a (suc n) =
-    ap (list_all f) (range_more a n) ∙ list_all-append f (range_with_len a n) ((a + n) ∷ []) ∙ rw (and-true, all_of_range f a n)
 
 pub fold_of_range : {X : Type 0} (f : X → ℕ → X) (x : X) (a n : ℕ) → fold f x (range_with_len a n) ≡ upto (λ i y. f y (a + i)) n x
 unfolding upto
@@ -91,7 +85,7 @@ find_of_range f a (suc n) =
     pick false true = refl
     pick false false = refl
 
--- ---- `(a..b).any(|i| ..)` and `.all(|i| ..)`, and from 0 on
+-- ---- `(a..b).any(|i| ..)`, and from 0 on
 module _ {F : Type 0} {g : Mut F (ℕ × Unit {0}) Bool} {b : ℕ} {u : Range ℕ} {f : F} {r : Bool} where
   pub any_from : {a : ℕ} (test : ℕ → Bool)
       → (xs : List ℕ) × (o : Option ℕ) × (j : F) × YieldsThen nat_range_steps (record { start = a; end = b }) xs o u × FoldsTo (λ p x q. Called g p (x, tt) false q) f xs j × MatchOption o (r ≡ false) (λ x. (r ≡ true) × ((h : F) × Called g j (x, tt) true h))
@@ -102,16 +96,6 @@ module _ {F : Type 0} {g : Mut F (ℕ × Unit {0}) Bool} {b : ℕ} {u : Range �
       → (xs : List ℕ) × (o : Option ℕ) × (j : F) × YieldsThen nat_range_steps (record { start = 0; end = b }) xs o u × FoldsTo (λ p x q. Called g p (x, tt) false q) f xs j × MatchOption o (r ≡ false) (λ x. (r ≡ true) × ((h : F) × Called g j (x, tt) true h))
       → ((x : ℕ) (b : Bool) (q : F) → Called g f (x, tt) b q → (q ≡ f) × (b ≡ test x)) → r ≡ any b test
   any_below {test} ran call = simp (sub-zero, zero-add) at (any_from {a = 0} test ran call)
-
-  pub all_from : {a : ℕ} (test : ℕ → Bool)
-      → (xs : List ℕ) × (o : Option ℕ) × (j : F) × YieldsThen nat_range_steps (record { start = a; end = b }) xs o u × FoldsTo (λ p x q. Called g p (x, tt) true q) f xs j × MatchOption o (r ≡ true) (λ x. (r ≡ false) × ((h : F) × Called g j (x, tt) false h))
-      → ((x : ℕ) (b : Bool) (q : F) → Called g f (x, tt) b q → (q ≡ f) × (b ≡ test x)) → r ≡ all (b - a) (λ i. test (a + i))
-  all_from {a} test ran call = all_from_yields_List test u f r ran (YieldsList-from_range a b (b - a) refl refl) call ∙ all_of_range test a (b - a)
-
-  pub all_below : {test : ℕ → Bool}
-      → (xs : List ℕ) × (o : Option ℕ) × (j : F) × YieldsThen nat_range_steps (record { start = 0; end = b }) xs o u × FoldsTo (λ p x q. Called g p (x, tt) true q) f xs j × MatchOption o (r ≡ true) (λ x. (r ≡ false) × ((h : F) × Called g j (x, tt) false h))
-      → ((x : ℕ) (b : Bool) (q : F) → Called g f (x, tt) b q → (q ≡ f) × (b ≡ test x)) → r ≡ all b test
-  all_below {test} ran call = simp (sub-zero, zero-add) at (all_from {a = 0} test ran call)
 
 -- ---- `(a..b).find(|i| ..)`
 module _ {F : Type 0} {g : Mut F (Bor ℕ × Unit {0}) Bool} {b : ℕ} {f : F} {r : Option ℕ} (u : Range ℕ) where
@@ -167,23 +151,6 @@ module _ {A : Type 0} (xs : List A) (d : A) where
   spread : xs ≡ map (λ i. get_or xs i d) (range_with_len 0 (length xs))
   spread = fill_by_all (λ i. get_or xs i d) xs (length xs) d refl (λ k h. refl)
 
-  pub any_of_list : (p : A → Bool) → list_any p xs ≡ any (length xs) (λ i. p (get_or xs i d))
-  any_of_list p = ap (list_any p) spread ∙ of_map (range_with_len 0 (length xs)) ∙ simp zero-add at (any_of_range (λ i. p (get_or xs i d)) 0 (length xs))
-    where
-      of_map : (l : List ℕ) → list_any p (map (λ i. get_or xs i d) l) ≡ list_any (λ i. p (get_or xs i d)) l
-      of_map [] = refl
-      of_map (i ∷ l) = ap (λ (b : Bool). p (get_or xs i d) || b) (of_map l)
-
-  pub all_of_list : (p : A → Bool) → list_all p xs ≡ all (length xs) (λ i. p (get_or xs i d))
-  all_of_list p =
-      ap (list_all p) spread ∙ list_all-map p (λ i. get_or xs i d) (range_with_len 0 (length xs))
-      ∙ simp zero-add at (all_of_range (λ i. p (get_or xs i d)) 0 (length xs))
-
-  pub fold_of_list : {X : Type 0} (f : X → A → X) (x : X) → fold f x xs ≡ upto (λ i y. f y (get_or xs i d)) (length xs) x
-  fold_of_list f x =
-      ap (fold f x) spread ∙ fold-map f (λ i. get_or xs i d) x (range_with_len 0 (length xs))
-      ∙ simp zero-add at (fold_of_range (λ y i. f y (get_or xs i d)) x 0 (length xs))
-
   pub sum_of_list : (f : A → ℕ) → sum_by f xs ≡ sum (length xs) (λ i. f (get_or xs i d))
   sum_of_list f =
       ap (sum_by f) spread ∙ fold-map (λ a x. a + f x) (λ i. get_or xs i d) 0 (range_with_len 0 (length xs))
@@ -194,11 +161,6 @@ module _ {A : Type 0} (xs : List A) (d : A) where
       ap (count_by p) spread ∙ fold-map (λ a x. a + cond (p x) 1 0) (λ i. get_or xs i d) 0 (range_with_len 0 (length xs))
       ∙ simp zero-add at (count_of_range (λ i. p (get_or xs i d)) 0 (length xs))
 
-  pub least_of_list : (p : A → Bool) → position_or_len p xs ≡ least (length xs) (λ i. p (get_or xs i d))
-  least_of_list p =
-      let f : ℕ → Bool = λ i. p (get_or xs i d) in
-      position_or_len_is p xs (least (length xs) f) d (least_le f (length xs)) (least_first f (length xs)) (least_passes f (length xs))
-
 pub any_least : (f : ℕ → Bool) (n : ℕ) → any n f ≡ ltb (least n f) n
 any_least f n = pick (any n f) refl
   where
@@ -208,27 +170,7 @@ any_least f n = pick (any n f) refl
         sym (lt-ltb (least n f) n (elim (dec_lt (least n f) n) [ yes h ↦ h | no h ↦ absurd (false≢true (sym (least_first f n i (omega arith)) ∙ p)) ]))
     pick false e = sym (le-ltb (least n f) n (elim (dec_lt (least n f) n) [ yes h ↦ absurd (false≢true (sym (any_none f n e (least n f) h) ∙ least_passes f n h)) | no h ↦ omega arith ]))
 
--- ---- `s.iter()` and then `any`, `all`, `position`, `filter` and `count`, `map` and `sum`, `fold`
-module _ {A F : Type 0} {g : Mut F (Bor A × Unit {0}) Bool} {s u : Iter A} {f : F} {r : Bool} where
-  pub any_in : (p : A → Bool) (xs : List A) (d : A) → iter_rest s ≡ xs
-      → (xs : List (Bor A)) × (o : Option (Bor A)) × (j : F) × YieldsThen fronts s xs o u × FoldsTo (λ p x q. Called g p (x, tt) false q) f xs j × MatchOption o (r ≡ false) (λ x. (r ≡ true) × ((h : F) × Called g j (x, tt) true h))
-      → ((x : Bor A) (b : Bool) (q : F) → Called g f (x, tt) b q → (q ≡ f) × (b ≡ p x.now)) → r ≡ any (length xs) (λ i. p (get_or xs i d))
-  any_in p xs d rest ran call = any_from_yields_List p u f r ran (YieldsList-from_slice xs rest) call ∙ any_of_list xs d p
-
-  pub all_in : (p : A → Bool) (xs : List A) (d : A) → iter_rest s ≡ xs
-      → (xs : List (Bor A)) × (o : Option (Bor A)) × (j : F) × YieldsThen fronts s xs o u × FoldsTo (λ p x q. Called g p (x, tt) true q) f xs j × MatchOption o (r ≡ true) (λ x. (r ≡ false) × ((h : F) × Called g j (x, tt) false h))
-      → ((x : Bor A) (b : Bool) (q : F) → Called g f (x, tt) b q → (q ≡ f) × (b ≡ p x.now)) → r ≡ all (length xs) (λ i. p (get_or xs i d))
-  all_in p xs d rest ran call = all_from_yields_List p u f r ran (YieldsList-from_slice xs rest) call ∙ all_of_list xs d p
-
-module _ {A F : Type 0} {g : Mut F (Bor A × Unit {0}) Bool} {s : Iter A} {f : F} (u : Iter A) {r : Option ℕ} where
-  pub position_in : (p : A → Bool) (xs : List A) (d : A) → iter_rest s ≡ xs
-      → (xs : List (Bor A)) × (o : Option (Bor A)) × (j : F) × YieldsThen fronts s xs o u × FoldsTo (λ p x q. Called g p (x, tt) false q) f xs j × MatchOption o (r ≡ None) (λ x. (r ≡ Some (length xs)) × ((h : F) × Called g j (x, tt) true h))
-      → ((x : Bor A) (b : Bool) (q : F) → Called g f (x, tt) b q → (q ≡ f) × (b ≡ p x.now))
-      → r ≡ cond (any (length xs) (λ i. p (get_or xs i d))) (Some (least (length xs) (λ i. p (get_or xs i d)))) None
-  position_in p xs d rest ran call =
-      position_from_yields_List p u f r ran (YieldsList-from_slice xs rest) call ∙ ap (λ (k : ℕ). cond (ltb k (length xs)) (Some k) None) (least_of_list xs d p)
-      ∙ ap (λ (b : Bool). cond b (Some (least (length xs) (λ i. p (get_or xs i d)))) None) (sym (any_least (λ i. p (get_or xs i d)) (length xs)))
-
+-- ---- `s.iter()` and then `filter` and `count`, `map` and `sum`
 pub count_in : {A F : Type 0} {g : Mut F (Bor (Bor A) × Unit {0}) Bool} {r : ℕ} {s : Filter (Iter A) F} {f : F} (p : A → Bool) (xs : List A) (d : A)
     → iter_rest (filter_source s) ≡ xs → filter_callee s ≡ f → (xs : List (Bor A)) × Drains (filter_steps fronts g) s xs × (r ≡ length xs)
     → ((x : Bor A) (b : Bool) (q : F) → CalledAt g f x b q → (q ≡ f) × (b ≡ p x.now)) → r ≡ count (length xs) (λ i. p (get_or xs i d))
@@ -246,10 +188,3 @@ module _ {A F : Type 0} {g : Mut F (Bor A × Unit {0}) ℕ} {s : Map (Iter A) F}
       → sum (length xs) (λ i. h (get_or xs i d)) < top → EachRunFrom (maps fronts g) s (λ p. fold (λ a x. a + x) 0 p.items < top)
   sum_in_fits {top} source closure call low =
       fits_by_from_yields_list h xs s top (YieldsList-from_map g h (YieldsList-from_slice xs source) closure call) (omega (arith, sum_of_list xs d h))
-
-pub fold_in : {A X F : Type 0} {g : Mut F (X × (Bor A × Unit {0})) X} {s : Iter A} {f : F} {start r : X} (run : A → X → X) (xs : List A) (d : A) → iter_rest s ≡ xs
-    → (xs : List (Bor A)) × (q : F) × Drains fronts s xs × FoldsTo {P = F × X} (λ a x b. Called g a.0 (a.1, (x, tt)) b.1 b.0) (f, start) xs (q, r)
-    → ((x : X) (a : Bor A) (y : X) (q : F) → Called g f (x, (a, tt)) y q → (q ≡ f) × (y ≡ run a.now x))
-    → r ≡ upto (λ i. run (get_or xs i d)) (length xs) start
-fold_in {g = g} {start = start} {r = r} run xs d rest ran call =
-    fold_from_yields_List g (λ x a. run a x) start r ran (YieldsList-from_slice xs rest) call ∙ fold_of_list xs d (λ x a. run a x) start

@@ -16,7 +16,7 @@ lead-requires c = let f : Facing c.args.state.now c.first_of_kind-from.result c.
 pub loop-i-preserved : goal.loop-i-preserved
 loop-i-preserved c =
     let z = c.loop-i.invariant in
-    (omega arith, omega (arith, c.loop-i-test.true, c.first_of_kind-to.ensures.within), c.lead.ensures.size ∙ z.2, λ x f. origins_more f z.0 c.loop-i-test.true (z.3 x f) c.shared_row-row.ensures c.shared_row-both.ensures c.lead.ensures)
+    (omega arith, omega (arith, c.loop-i-test.true, c.first_of_kind-to.ensures.within), c.lead.ensures.size ∙ z.2, λ x f. origins_more f z.0 c.loop-i-test.true (z.3 x f) c.row-landed.ensures c.shared_row-both.ensures c.lead.ensures)
 
 pub returns : goal.returns
 returns c =

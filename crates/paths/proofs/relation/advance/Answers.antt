@@ -21,7 +21,7 @@ follow-requires c = let f : Facing c.args.state.now c.first_of_kind-from.result 
 pub loop-i-preserved : goal.loop-i-preserved
 loop-i-preserved c =
     let z = c.loop-i.invariant in
-    (omega arith, omega (arith, c.loop-i-test.true, c.first_of_kind-to.ensures.within), c.follow.ensures.size ∙ z.2, λ x f. stepped_more f z.0 c.loop-i-test.true (z.3 x f) (room_same c.requires.room c.clear.ensures.size) c.shared_row-set.ensures c.follow.ensures)
+    (omega arith, omega (arith, c.loop-i-test.true, c.first_of_kind-to.ensures.within), c.follow.ensures.size ∙ z.2, λ x f. stepped_more f z.0 c.loop-i-test.true (z.3 x f) (room_same c.requires.room c.clear.ensures.size) c.row-set.ensures c.follow.ensures)
 
 pub returns : goal.returns
 returns c =
