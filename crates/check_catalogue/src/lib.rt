@@ -15,20 +15,14 @@ use records::schema::Signature;
 
 pub const MAX_VIEWS: usize = 16;
 
-#[tactic(auto, unfolding(
-    records::specs::CatalogueRecord::views,
-    records::specs::Layout::size_at
-))]
+#[tactic(auto, unfolding(records::specs::CatalogueRecord::views, records::specs::Layout::size_at))]
 pub fn views(words: &[u16]) -> usize
     ensures { IsWord (views_in words.now) result }
 {
     word(words, 0)
 }
 
-#[tactic(auto, unfolding(
-    records::specs::CatalogueRecord::length_at,
-    records::specs::Layout::size_at
-))]
+#[tactic(auto, unfolding(records::specs::CatalogueRecord::length_at, records::specs::Layout::size_at))]
 fn length_at(words: &[u16], i: usize) -> usize
     requires { i ≤ max_views }
     ensures { IsWord (length_at words.now i) result }

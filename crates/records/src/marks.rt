@@ -23,9 +23,5 @@ pub fn allow(s: Signature, marks: u32) -> Signature
 pub fn allows(s: Signature, k: usize) -> bool
     ensures { result ≡ allows_in s k }
 {
-    if k < MAX_MARKS {
-        (s.marks >> k) % 2 == 1
-    } else {
-        false
-    }
+    k < MAX_MARKS && (s.marks >> k) % 2 == 1
 }
