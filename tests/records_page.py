@@ -234,7 +234,8 @@ def refusals(rows, orders, lent):
     for entry, text in orders:
         source, _, name = {"catalogue": "catalogue_check"}.get(entry, entry).partition("_")
         # A concept is checked in the role that the entry for C names. Of a catalogue only that entry is lent words.
-        role = re.search(rf"fn bikuvoa_{entry}\([^}}]*?\bcheck::<(\w+)>", ENTRIES)
+        called = re.search(rf"fn bikuvoa_{entry}\(.*?^\}}", ENTRIES, re.M | re.S).group()
+        role = re.search(r"\bcheck::<(\w+)>", called)
         parts = text.removesuffix(", lent words" if entry == "catalogue" else "").split(", ")
         hold(f"checks of {entry}", [look for part in parts for look in looks.get(part, [f"check_{part}"])],
              [look.replace("<R>", f"<{role.group(1)}>") if role else look for look in looked_at(source, "check" if role else name or entry)])

@@ -65,8 +65,9 @@ fn answer(limit: usize, steps: usize, scan: Scan) -> Result<Named, Refusal>
     Ok(scan.named())
 }
 
-// The tokens are read once, for refusal 4 and for what the scan keeps.
-fn check_tokens(limit: usize, s: Signature, words: &[u16]) -> Result<Named, Refusal>
+// What a concept of so many steps at most names, whatever its role. The tokens are read once, for refusal 4 and for what the scan
+// keeps.
+pub fn check_tokens(limit: usize, s: Signature, words: &[u16]) -> Result<Named, Refusal>
     ensures { result ≡ concept_answer limit s words.now }
 {
     if bad_shape(words) {
