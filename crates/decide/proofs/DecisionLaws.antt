@@ -13,22 +13,15 @@ use Rattle.records.specs.declared.refusal.Refusal.{Refusal}
 use Rattle.records.specs.declared.refusal.Refusal.TheVariants.{LentWords}
 use Rattle.records.specs.Layout.{query_steps, view_steps, query_marks, no_marks, max_state_words}
 use Rattle.records.specs.Marks.{allowing}
-use Rattle.records.specs.SchemaRecord.{signature_of}
 use Rattle.records.specs.SchemaRefusal.{schema_answer}
 use Rattle.records.specs.ConceptRefusal.{concept_answer}
 use Rattle.records.specs.Refusal.{refusal_in}
-use Rattle.records.specs.Outcome.{query_signature, refusal_11, lent_refusal, first_refusal, refused_or, outcome}
+use Rattle.records.specs.Outcome.{refusal_11, lent_refusal, first_refusal, refused_or, outcome}
 use Rattle.records.specs.Helpers.Triple.{Triple}
-use Rattle.records.proofs.OutcomeLaws.{Passed, first_passed, first_among, first_stays, first_none, lent_passed, schema_signature, passed_schema, passed_concept}
+use Rattle.records.proofs.OutcomeLaws.{Passed, first_passed, first_among, first_stays, first_none, lent_passed, declared_by, passed_schema, passed_concept}
 use Rattle.decide.specs.declared.Witness.{Witness}
 use Rattle.decide.specs.Decision.{decide_refusals, Verdict, Decision}
 use Rattle.decide.specs.Holding.{holds_refusals, Tells, Holding, checked}
-
--- what an accepted schema's signature allows in a query and in a view
-pub declared_by : (schema : List ℕ) {s : Signature} → schema_answer schema ≡ Ok s
-    → (s ≡ signature_of schema) × (allowing query_marks s ≡ query_signature schema) × (allowing no_marks s ≡ signature_of schema)
-unfolding signature_of
-declared_by schema e = let same = (schema_signature schema e).0 in (same, rw same refl, rw same refl)
 
 module _ (schema query view : List ℕ) where
   abbrev refusals : List (Option Refusal)

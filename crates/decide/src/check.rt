@@ -8,7 +8,7 @@ use records::concept::{Query, View};
 use records::refusal::Refusal;
 
 // The schema, the query and the view, in this order: the first refusal that applies, or nothing.
-#[tactic(auto, using(std::proofs::lemmas::Grind::common_steps, crate::proofs::DecisionLaws::declared_by), unfolding(records::specs::Outcome::outcome, records::specs::Outcome::first_refusal))]
+#[tactic(auto, using(std::proofs::lemmas::Grind::common_steps, records::proofs::OutcomeLaws::declared_by), unfolding(records::specs::Outcome::outcome, records::specs::Outcome::first_refusal))]
 pub fn check(schema: &[u16], query: &[u16], view: &[u16]) -> Result<(), Refusal>
     ensures { result ≡ checked schema.now query.now view.now }
 {

@@ -22,6 +22,7 @@ pub fn decode(bytes: &[u8], words: &mut [u16]) -> usize
     ensures { Decoded bytes.now words.old result words.new }
 {
     let n = words_of(bytes.len(), words.len());
+    // By number: of what is written through `words.iter_mut()` under an adapter, as `zip`, the check knows nothing.
     for i in 0..n {
         words[i] = u16::from_le_bytes([bytes[2 * i], bytes[2 * i + 1]]);
     }

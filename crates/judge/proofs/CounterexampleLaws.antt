@@ -22,11 +22,10 @@ use Rattle.records.specs.Marks.{allowing, used_marks}
 use Rattle.records.proofs.General.FiniteLaws.{least_same}
 use Rattle.records.proofs.General.RangeLaws.{any_least}
 use Rattle.records.proofs.MarkLaws.{accepted_used, accepted_allowing}
-use Rattle.records.proofs.OutcomeLaws.{schema_signature, concept_named}
+use Rattle.records.proofs.OutcomeLaws.{schema_signature, concept_named, declared_by}
 use Rattle.rows.specs.Selection.{Selection}
 use Rattle.judge.specs.Counterexample.{separates, lowest, finding, apart, Accepted}
 use Rattle.evaluate.proofs.EvaluationLaws.{selected_bit}
-use Rattle.judge.proofs.CheckLaws.{declared_by}
 
 -- the search over the two sets is that over the concepts
 pub lowest_is : (I : State) (query view : Concept) (inside outside : List ℕ) → Selection I query inside → Selection I view outside → I.size ≤ object_part
@@ -64,7 +63,7 @@ pub accepted : {schema query view state : List ℕ} {s : Signature} {x y : Named
 accepted {schema} {query} {view} {state} {s} d q v t =
     let same = declared_by schema d in
     let asked = concept_named query_steps (allowing query_marks (signature_of schema)) query (rw same.0 at q) in
-    let stored = concept_named view_steps (signature_of schema) view (rw same.1 at v) in
+    let stored = concept_named view_steps (signature_of schema) view (rw same.2 at v) in
     record {
       schema_accepted = (schema_signature schema d).1;
       query_accepted = rw same.0 (accepted_used query_steps (signature_of schema) query_marks query asked.1);

@@ -19,13 +19,12 @@ use Rattle.records.specs.StateRecord.{objects, state_of}
 use Rattle.records.specs.SchemaRefusal.{schema_answer}
 use Rattle.records.specs.ConceptRefusal.{concept_answer}
 use Rattle.records.specs.StateRefusal.{state_answer}
-use Rattle.records.proofs.OutcomeLaws.{first_none, outcome_answered, answer_passed, lent_passed}
+use Rattle.records.proofs.OutcomeLaws.{first_none, outcome_answered, answer_passed, lent_passed, declared_by}
 use Rattle.records.proofs.General.FiniteLaws.{count_same}
 use Rattle.index.specs.BitSet.{bit_at}
 use Rattle.rows.specs.Selection.{Selection}
 use Rattle.judge.specs.Select.{flags, selection, refused_with, select_refusals, select_outcome}
 use Rattle.evaluate.proofs.EvaluationLaws.{selected_bit}
-use Rattle.judge.proofs.CheckLaws.{declared_by}
 
 flags_same : (f g : ℕ → Bool) (n : ℕ) → ((i : ℕ) → i < n → f i ≡ g i) → flags f n ≡ flags g n
 unfolding flags
@@ -47,4 +46,4 @@ selection_answered schema concept state lent d p t room =
     let same = declared_by schema d in
     sym (outcome_answered (refused_with lent) _ (select_refusals schema concept state lent)
     (first_none (select_refusals schema concept state lent)
-    (answer_passed d, (answer_passed (rw same.1 at p), (answer_passed (rw same.0 at t), (lent_passed (objects state) lent room, tt))))))
+    (answer_passed d, (answer_passed (rw same.2 at p), (answer_passed (rw same.0 at t), (lent_passed (objects state) lent room, tt))))))

@@ -40,7 +40,7 @@ fn find(s: Signature, schema: &[u16], query: &[u16], view: &[u16], state: &[u16]
 }
 
 // The lowest counterexample, if there is one, or the first refusal that applies.
-#[tactic(auto, using(std::proofs::lemmas::Grind::common_steps, crate::proofs::CheckLaws::declared_by), unfolding(records::specs::Outcome::outcome, records::specs::Outcome::first_refusal))]
+#[tactic(auto, using(std::proofs::lemmas::Grind::common_steps, records::proofs::OutcomeLaws::declared_by), unfolding(records::specs::Outcome::outcome, records::specs::Outcome::first_refusal))]
 pub fn counterexample(
     schema: &[u16],
     query: &[u16],

@@ -7,7 +7,7 @@ use check_state::check_state;
 use records::refusal::Refusal;
 
 // The place of the first broken axiom, if one is broken, or the first refusal that applies.
-#[tactic(auto, using(std::proofs::lemmas::Grind::common_steps, crate::proofs::CheckLaws::declared_by), unfolding(records::specs::Outcome::outcome, records::specs::Outcome::first_refusal))]
+#[tactic(auto, using(std::proofs::lemmas::Grind::common_steps, records::proofs::OutcomeLaws::declared_by), unfolding(records::specs::Outcome::outcome, records::specs::Outcome::first_refusal))]
 pub fn legal(schema: &[u16], state: &[u16]) -> Result<Option<usize>, Refusal>
     ensures { result ≡ legal_answer schema.now state.now }
 {

@@ -8,19 +8,10 @@ use Rattle.std.specs.Prelude.{Option, Some, None, Ok, Err}
 use Rattle.std.proofs.lemmas.Grind.{common_steps}
 use Rattle.records.specs.declared.schema.Signature.{Signature}
 use Rattle.records.specs.declared.refusal.Refusal.{Refusal}
-use Rattle.records.specs.Layout.{no_marks}
-use Rattle.records.specs.Marks.{allowing}
-use Rattle.records.specs.SchemaRecord.{signature_of}
-use Rattle.records.specs.SchemaRefusal.{schema_answer}
 use Rattle.records.specs.Outcome.{first_refusal, refused_or, outcome}
 use Rattle.records.proofs.AcceptedLaws.{passes_1, signature_few}
-use Rattle.records.proofs.OutcomeLaws.{Passed, first_passed, schema_signature, passed_schema, passed_concept, passed_record, passed_attribute}
+use Rattle.records.proofs.OutcomeLaws.{Passed, first_passed, passed_schema, passed_concept, passed_record, passed_attribute}
 use Rattle.links.specs.Links.{links_refusals, checked, Countable}
-
--- an accepted schema's signature allows no mark
-pub declared_by : (schema : List ℕ) {s : Signature} → schema_answer schema ≡ Ok s → (s ≡ signature_of schema) × (allowing no_marks s ≡ signature_of schema)
-unfolding signature_of
-declared_by schema e = let same = (schema_signature schema e).0 in (same, rw same refl)
 
 answered : {A : Type 0} (refusals : List (Option Refusal)) {x y : A} → outcome Err refusals (Ok x) ≡ Ok y → Passed refusals × (y ≡ x)
 unfolding outcome

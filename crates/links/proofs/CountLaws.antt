@@ -1,6 +1,6 @@
 -- One pass over the facts of a kind: the links so far, and the counts so far for each second object. Facts before the row of the
 -- kind and after it are no links.
-use Prim.Native.Nat.{ℕ, zero, suc, ◌+◌, ◌-◌, ◌*◌, ◌^◌, ◌≤◌, ◌<◌}
+use Prim.Native.Nat.{ℕ, ◌+◌, ◌-◌, ◌≤◌, ◌<◌}
 use mathlib.Core.Bool.{Bool, So, ◌&&◌, and-true, and-false}
 use mathlib.Core.List.{List}
 use mathlib.Core.Path.{◌≡◌, refl, sym, ap, ◌∙◌}
@@ -104,8 +104,3 @@ module _ (w : List ℕ) (k : ℕ) (chosen : List ℕ) where
 
 pub sum_taken : (l : List ℕ) (n : ℕ) → n ≤ length l → sum (length (take n l)) (λ e. get_or (take n l) e 0) ≡ sum n (λ e. get_or l e 0)
 sum_taken l n h = ap (λ (m : ℕ). sum m (λ e. get_or (take n l) e 0)) (length-take-le n l h) ∙ sum_same _ _ n (λ e k. get_or-take n l e 0 k)
-
-pub sum_few : (f : ℕ → ℕ) (n : ℕ) → ((e : ℕ) → f e < 2 ^ 16) → sum n f ≤ n * 2 ^ 16
-unfolding sum
-sum_few f zero h = omega arith
-sum_few f (suc n) h = omega (arith, sum_few f n h, h n)

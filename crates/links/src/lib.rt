@@ -19,7 +19,7 @@ use records::state::{ATTRIBUTE_KINDS, objects};
 mod counts;
 
 // What both counts check before they begin; the state's refusals come before the attribute's.
-#[tactic(auto, using(std::proofs::lemmas::Grind::common_steps, crate::proofs::CheckedLaws::declared_by), unfolding(records::specs::Outcome::outcome, records::specs::Outcome::first_refusal, records::specs::Outcome::refusal_12))]
+#[tactic(auto, using(std::proofs::lemmas::Grind::common_steps, records::proofs::OutcomeLaws::declared_by), unfolding(records::specs::Outcome::outcome, records::specs::Outcome::first_refusal, records::specs::Outcome::refusal_12))]
 fn check(
     schema: &[u16],
     concept: &[u16],

@@ -4,18 +4,22 @@ use mathlib.Core.List.{List, [], ◌∷◌, ◌++◌}
 use mathlib.Core.Bool.{Bool, false, true, cond}
 use mathlib.Core.Path.{◌≡◌, refl, sym, ap}
 use lib.ListN.{length}
+use native.Mathlib.Omega.{arith}
 use borrow.Author.Tests.{le-ltb, ltb-false, leb-false}
 use Rattle.std.specs.Prelude.{Option, Some, None, Result, Ok, Err}
 use Rattle.std.proofs.lemmas.Option.{none-some}
 use Rattle.records.specs.declared.schema.Signature.{Signature}
 use Rattle.records.specs.declared.refusal.Refusal.{Refusal}
 use Rattle.records.specs.declared.named.Named.{Named}
-use Rattle.records.specs.Refusal.{refusal_in}
+use Rattle.records.specs.declared.refusal.Refusal.TheVariants.{SchemaShape, SchemaAxiom, ConceptShape, ConceptToken, ConceptPile, ConceptSteps, StateShape, StateFact, StateOrder, StateNames, LentWords, Attribute, CatalogueLayout, SchemaLoose, StateClassFacts}
+use Rattle.records.specs.Refusal.{number, refusal_in, returned}
 use Rattle.records.specs.SchemaRefusal.{schema_answer, AcceptedSchema}
 use Rattle.records.specs.Named.{named_in}
 use Rattle.records.specs.ConceptRefusal.{concept_answer, AcceptedConcept}
 use Rattle.records.specs.StateRefusal.{state_answer, AcceptedState}
-use Rattle.records.specs.Outcome.{refusal_11, refusal_12, schema_refusal, lent_refusal, attribute_refusal, first_refusal, outcome}
+use Rattle.records.specs.Layout.{query_marks, no_marks}
+use Rattle.records.specs.Marks.{allowing}
+use Rattle.records.specs.Outcome.{refusal_11, refusal_12, schema_refusal, query_signature, lent_refusal, attribute_refusal, first_refusal, outcome}
 use Rattle.records.specs.SchemaRecord.{signature_of}
 use Rattle.records.proofs.AcceptedLaws.{faultless_schema, faultless_concept, faultless_state}
 
@@ -55,6 +59,15 @@ first_passed (None ∷ l) e = (refl, first_passed l e)
 first_passed (Some r ∷ l) e = absurd (none-some r (sym e))
 
 module _ {A : Type 0} (refused : Refusal → A) (answer : A) where
+  -- a refusal after checks that do not refuse
+  pub refused_at : (passed rest : List (Option Refusal)) (r : Refusal) → Passed passed → refused r ≡ outcome refused (passed ++ Some r ∷ rest) answer
+  unfolding outcome
+  refused_at passed rest r p = rw (first_at passed rest r p)
+
+  pub answered_at : (refusals : List (Option Refusal)) → Passed refusals → answer ≡ outcome refused refusals answer
+  unfolding outcome
+  answered_at refusals p = rw (first_none refusals p)
+
   pub outcome_refused : (refusals : List (Option Refusal)) {r : Refusal} → first_refusal refusals ≡ Some r → outcome refused refusals answer ≡ refused r
   unfolding outcome
   outcome_refused refusals e = rw e
@@ -78,6 +91,28 @@ unfolding outcome first_refusal
 last_answer (Ok y) x h = ap Ok (h y refl)
 last_answer (Err r) x h = refl
 
+-- No refusal has the number 0: a call that returns 0 is answered.
+pub answered_zero : {A : Type 0} (a : Result A Refusal) → returned a ≡ 0 → (x : A) × (a ≡ Ok x)
+answered_zero (Ok x) e = (x, refl)
+answered_zero (Err r) e = absurd (pick r e)
+  where
+    pick : (r : Refusal) → number r ≡ 0 → ⊥
+    pick SchemaShape e = omega arith
+    pick SchemaAxiom e = omega arith
+    pick ConceptShape e = omega arith
+    pick ConceptToken e = omega arith
+    pick ConceptPile e = omega arith
+    pick ConceptSteps e = omega arith
+    pick StateShape e = omega arith
+    pick StateFact e = omega arith
+    pick StateOrder e = omega arith
+    pick StateNames e = omega arith
+    pick LentWords e = omega arith
+    pick Attribute e = omega arith
+    pick CatalogueLayout e = omega arith
+    pick SchemaLoose e = omega arith
+    pick StateClassFacts e = omega arith
+
 -- Nothing is refused just where the record is accepted.
 
 -- an answer that is no refusal
@@ -92,6 +127,12 @@ module _ (schema : List ℕ) where
   -- what an accepted schema's answer holds
   pub schema_signature : {s : Signature} → schema_answer schema ≡ Ok s → (s ≡ signature_of schema) × AcceptedSchema schema
   schema_signature e = let ok = passed_schema (answer_passed e) in (cc, ok)
+
+  -- an accepted schema's signature allows no mark: what it allows in a query and in a view
+  pub declared_by : {s : Signature} → schema_answer schema ≡ Ok s
+      → (s ≡ signature_of schema) × (allowing query_marks s ≡ query_signature schema) × (allowing no_marks s ≡ signature_of schema)
+  unfolding signature_of
+  declared_by e = let same = (schema_signature e).0 in (same, rw same refl, rw same refl)
 
 module _ (limit : ℕ) (s : Signature) (w : List ℕ) where
   pub passed_concept : refusal_in (concept_answer limit s w) ≡ None → AcceptedConcept limit s w

@@ -12,6 +12,7 @@ pub trait Role {
 }
 
 // What is selected, or has its links counted.
+#[derive(Clone, Copy)]
 pub struct Plain;
 
 impl Role for Plain {
@@ -25,6 +26,7 @@ impl Role for Plain {
 }
 
 // What is decided on, or has a counterexample.
+#[derive(Clone, Copy)]
 pub struct Query;
 
 impl Role for Query {
@@ -37,6 +39,7 @@ impl Role for Query {
     ghost MARKS = { 15 };
 }
 
+#[derive(Clone, Copy)]
 pub struct View;
 
 impl Role for View {

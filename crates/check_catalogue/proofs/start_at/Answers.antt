@@ -1,17 +1,13 @@
 -- Seventeen words that are added up stay small.
-use Prim.Native.Nat.{ℕ, zero, suc, ◌+◌, ◌*◌, ◌≤◌, ◌<◌, ◌^◌}
+use Prim.Native.Nat.{◌+◌}
 use native.Mathlib.Omega.{arith}
 use Rattle.std.proofs.Common.{rules}
 use Rattle.records.specs.Finite.{sum}
 use Rattle.records.specs.Layout.{size_at}
 use Rattle.records.specs.CatalogueRecord.{length_at, start_at}
+use Rattle.records.proofs.General.SumLaws.{sum_small}
 use Rattle.records.proofs.General.RangeLaws.{sum_below, sum_fits}
 use Rattle.check_catalogue.proofs.start_at.Goals as goal
-
-sum_small : (f : ℕ → ℕ) (n : ℕ) → ((k : ℕ) → f k < 2 ^ 16) → sum n f ≤ n * 2 ^ 16
-unfolding sum
-sum_small f zero h = omega arith
-sum_small f (suc n) h = omega (arith, sum_small f n h, h n)
 
 pub sum-requires-clause-fits : goal.sum-requires-clause-fits
 unfolding length_at size_at

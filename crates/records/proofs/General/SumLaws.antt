@@ -1,6 +1,6 @@
 -- Sums, and counts that are summed: a table of tests has as many that pass by rows as by columns, and things that pass a test
 -- are as many as those of each key together.
-use Prim.Native.Nat.{ℕ, zero, suc, ◌+◌, ◌<◌}
+use Prim.Native.Nat.{ℕ, zero, suc, ◌+◌, ◌*◌, ◌^◌, ◌≤◌, ◌<◌}
 use mathlib.Core.Bool.{Bool, true, false, So, cond, ◌&&◌}
 use mathlib.Core.Path.{◌≡◌, refl, sym, ap, ◌∙◌}
 use native.Mathlib.Numerals.{add-one}
@@ -20,6 +20,12 @@ pub sum_same : (f g : ℕ → ℕ) (n : ℕ) → ((i : ℕ) → i < n → f i �
 unfolding sum
 sum_same f g zero h = refl
 sum_same f g (suc n) h = rw (h n (omega arith), sum_same f g n (λ i l. h i (omega arith)))
+
+-- words that are added up stay small
+pub sum_small : (f : ℕ → ℕ) (n : ℕ) → ((i : ℕ) → f i < 2 ^ 16) → sum n f ≤ n * 2 ^ 16
+unfolding sum
+sum_small f zero h = omega arith
+sum_small f (suc n) h = omega (arith, sum_small f n h, h n)
 
 sum_zero : (n : ℕ) → sum n (λ i. 0) ≡ 0
 unfolding sum

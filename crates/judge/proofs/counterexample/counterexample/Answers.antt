@@ -3,7 +3,7 @@ use mathlib.Core.Path.{sym, ◌∙◌}
 use native.Mathlib.Omega.{arith}
 use Rattle.std.proofs.lemmas.Grind.{common_steps}
 use Rattle.records.specs.Outcome.{first_refusal, outcome}
-use Rattle.judge.proofs.CheckLaws.{declared_by}
+use Rattle.records.proofs.OutcomeLaws.{declared_by}
 use Rattle.judge.proofs.CounterexampleLaws.{accepted}
 use Rattle.judge.proofs.counterexample.counterexample.Goals as goal
 

@@ -8,7 +8,8 @@ use Rattle.records.specs.ConceptRecord.{concept_of}
 use Rattle.records.specs.StateRecord.{state_of}
 use Rattle.records.proofs.AcceptedLaws.{passes_7, objects_few}
 use Rattle.evaluate.proofs.EvaluationLaws.{evaluable}
-use Rattle.judge.proofs.CheckLaws.{declared_by, plain_accepted}
+use Rattle.records.proofs.OutcomeLaws.{declared_by}
+use Rattle.judge.proofs.CheckLaws.{plain_accepted}
 use Rattle.judge.proofs.SelectLaws.{selection_is, selection_answered}
 use Rattle.judge.proofs.select.select.Goals as goal
 

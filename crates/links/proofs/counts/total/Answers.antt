@@ -4,7 +4,8 @@ use native.Mathlib.Omega.{arith}
 use lib.ListN.{take, get_or}
 use Rattle.std.proofs.Common.{rules}
 use Rattle.records.proofs.General.RangeLaws.{sum_in, sum_in_fits}
-use Rattle.links.proofs.CountLaws.{sum_taken, sum_few}
+use Rattle.records.proofs.General.SumLaws.{sum_small}
+use Rattle.links.proofs.CountLaws.{sum_taken}
 use Rattle.links.proofs.counts.total.Goals as goal
 
 pub sum-requires-clause-fits : goal.sum-requires-clause-fits
@@ -13,7 +14,7 @@ sum-requires-clause-fits c =
     (omega (
       arith,
       sum_taken c.args.counts.now c.args.n (omega (arith, c.requires, c.told-counts)),
-      sum_few (λ e. get_or c.args.counts.now e 0) c.args.n c.fits-counts,
+      sum_small (λ e. get_or c.args.counts.now e 0) c.args.n c.fits-counts,
       c.requires,
     ))
 
