@@ -1,5 +1,6 @@
 // The roles of a concept, with the most steps that each may have and the set of marks that it allows.
 ghost use Rattle.std.specs.Prelude.{ℕ};
+ghost use Rattle.records.specs.Layout.{query_steps, view_steps, query_marks, no_marks};
 
 pub trait Role {
     const STEPS: usize;
@@ -20,9 +21,9 @@ impl Role for Plain {
 
     const MARKS: u32 = 0;
 
-    ghost STEPS = { 16 };
+    ghost STEPS = { query_steps };
 
-    ghost MARKS = { 0 };
+    ghost MARKS = { no_marks };
 }
 
 // What is decided on, or has a counterexample.
@@ -34,9 +35,9 @@ impl Role for Query {
 
     const MARKS: u32 = 15;
 
-    ghost STEPS = { 16 };
+    ghost STEPS = { query_steps };
 
-    ghost MARKS = { 15 };
+    ghost MARKS = { query_marks };
 }
 
 #[derive(Clone, Copy)]
@@ -45,9 +46,10 @@ pub struct View;
 impl Role for View {
     const STEPS: usize = 6;
 
-    const MARKS: u32 = 0;
+    // None, as in a plain query.
+    const MARKS: u32 = Plain::MARKS;
 
-    ghost STEPS = { 6 };
+    ghost STEPS = { view_steps };
 
-    ghost MARKS = { 0 };
+    ghost MARKS = { no_marks };
 }
