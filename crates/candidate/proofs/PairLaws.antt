@@ -124,7 +124,7 @@ module _ (S : Schema) (G : Ground) (T : Forest) (P d : ℕ) where
       ap (λ (t : Bool). cond t (suc (size G T)) zero) e
       ∙ sym (ap (λ (t : Bool). cond t (kid G T P d) (cond (lacks S G T P d) (suc (size G T)) zero)) (le-ltb 0 (kid G T P d) (omega arith)))
 
-value_bound : (S : Schema) (G : Ground) (T : Forest) (P d : ℕ) → value_at S G T P d ≤ suc (size G T)
+pub value_bound : (S : Schema) (G : Ground) (T : Forest) (P d : ℕ) → value_at S G T P d ≤ suc (size G T)
 unfolding value_at
 value_bound S G T P d =
     cond_elim (λ v. v ≤ suc (size G T)) (ltb 0 (kid G T P d)) (λ _. omega (arith, kid_bound G T P d))

@@ -147,7 +147,7 @@ module _ (P d : ℕ) where
       (ap (λ (b : Bool). eqb (edge_of w).attribute P && b) (ne_eqb (edge_of w).origin d (λ q. omega arith)) ∙ and-false (eqb (edge_of w).attribute P))
       (none_from h l)
 
-  asked_beyond : (g : ℕ) (objects l : List ℕ) → part ≤ d → false ≡ asks (ground_in g objects l) P d
+  pub asked_beyond : (g : ℕ) (objects l : List ℕ) → part ≤ d → false ≡ asks (ground_in g objects l) P d
   asked_beyond g objects l h = sym (asks_words g objects l ∙ none_from h l)
 
 module _ (l : List ℕ) (P : ℕ) where

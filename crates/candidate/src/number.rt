@@ -1,6 +1,6 @@
 // How many objects the candidate has: the closing object is one of them where some object lacks a value. How many facts it has
 // at most.
-ghost use Rattle.std.specs.Prelude.{◌≤◌, ◌&&◌, ◌||◌, not, ◌≡◌};
+ghost use Rattle.std.specs.Prelude.{◌≤◌, ◌&&◌, ◌||◌, not, is_some, ◌≡◌};
 ghost use Rattle.records.specs.Layout.{max_classes, max_attributes, max_constants, max_objects, max_facts, query_steps};
 ghost use Rattle.records.specs.Schema.{Schema};
 ghost use Rattle.records.specs.SchemaRecord.{schema_of};
@@ -31,10 +31,10 @@ pub struct Sizes {
 
 // An object of these classes needs a value, and neither the query nor the made part has one. The mask has the classes that
 // need it.
-pub fn unmet(classes: u32, mask: u32, asked: bool, made: bool) -> bool
-    ensures { result ≡ (meets_in classes mask && not (asked || made)) }
+pub fn unmet<T: Copy>(classes: u32, mask: u32, asked: bool, made: Option<T>) -> bool
+    ensures { result ≡ (meets_in classes mask && not (asked || is_some made)) }
 {
-    meets(classes, mask) & !(asked | made)
+    meets(classes, mask) & !(asked | made.is_some())
 }
 
 // Some object lacks a value of the attribute. The mask has the classes that need one.
@@ -51,12 +51,7 @@ fn lacks_one(
 {
     let from = origins(edges, attribute);
     let made = kids(objects, g, n, attribute);
-    (0..n).any(|d| unmet(
-        classes_at(objects, d),
-        mask,
-        is_origin(&from, d),
-        made[d].is_some(),
-    ))
+    (0..n).any(|d| unmet(classes_at(objects, d), mask, is_origin(&from, d), made[d]))
 }
 
 fn lacking(schema: &[u16], edges: &[u16], objects: &[u64; OBJECTS], g: usize, n: usize) -> bool

@@ -27,7 +27,7 @@ fn linked(edges: &[u16], attribute: usize, d: usize, e: usize) -> bool
 {
     edges.iter().any(|&edge| {
         let w = usize::from(edge);
-        w / PART / PART == attribute && w / PART % PART == d && w % PART == e
+        (w / PART / PART == attribute) & (w / PART % PART == d) & (w % PART == e)
     })
 }
 
@@ -90,7 +90,7 @@ fn value_of(
         return Some(usize::from(e));
     }
     let classes = classes_of(schema, objects, sizes.ground, sizes.made, d);
-    if !unmet(classes, mask, asked, false) {
+    if !unmet(classes, mask, asked, made) {
         return None;
     }
     Some(sizes.made)

@@ -17,11 +17,11 @@ pub returns-then-not-unmet : goal.returns-then-not-unmet
 returns-then-not-unmet c = λ edges P u.
     value_else _ _ _ P _ false (sym (rw c.in_default.is at u.value))
     (sym c.if-not-unmet.true
-    ∙ lacks_is _ _ _ P _ _ _ c.args.made _ _ (rw c.in_default.is c.unmet.ensures) (c.classes_of-classes.ensures edges) u)
+    ∙ lacks_is _ _ _ P _ _ _ c.args.made _ _ c.unmet.ensures (c.classes_of-classes.ensures edges) u)
 
 pub returns : goal.returns
 returns c = λ edges P u.
     add-one _ ∙ ap suc (sym (size_laid _ _ _ c.requires.1.laid c.args.objects.now edges))
     ∙ value_else _ _ _ P _ true (sym (rw c.in_default.is at u.value))
     (sym c.if-not-unmet.false
-    ∙ lacks_is _ _ _ P _ _ _ c.args.made _ _ (rw c.in_default.is c.unmet.ensures) (c.classes_of-classes.ensures edges) u)
+    ∙ lacks_is _ _ _ P _ _ _ c.args.made _ _ c.unmet.ensures (c.classes_of-classes.ensures edges) u)
