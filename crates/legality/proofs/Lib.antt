@@ -1,5 +1,5 @@
--- Laws that the proofs here share.
-mod RowLaws
+-- Laws that several proofs here share.
 mod FactLaws
 mod BreakLaws
+mod AskedLaws
 mod SearchLaws

@@ -1,17 +1,14 @@
-// Whether some object or some fact breaks an axiom. Membership is one look-up in the index of the state.
-ghost use Rattle.std.specs.Prelude.{◌≡◌, ◌+◌, ◌<◌, ◌^◌};
-ghost use Rattle.records.specs.Layout.{attribute_kinds, fact_kinds, max_classes, max_attributes, right_at, state_layout};
+// Whether one object or one fact breaks an axiom. Membership is one look-up in the index of the state.
+ghost use Rattle.std.specs.Prelude.{◌≡◌, ◌<◌, ◌^◌};
+ghost use Rattle.records.specs.Layout.{fact_kinds, max_classes, right_at, state_layout};
 ghost use Rattle.records.specs.StateRecord.{object_at};
 ghost use Rattle.records.specs.Helpers.InRange.{AxiomInRange};
-ghost use Rattle.index.specs.Kinds.{KindsRise};
-ghost use Rattle.legality.specs.Breaks.{seen_at, repeats_left, KindRow, breaks};
+ghost use Rattle.legality.specs.Breaks.{seen_at, repeats_left, object_breaks, misplaced};
 
 use index::bits::has;
-use index::kinds::first_of_kind;
 use records::layout::{left, right};
 use records::schema::Axiom;
-use records::state::{ATTRIBUTE_KINDS, OBJECT_PART, object_at, objects, state_layout};
-use std::ops::Range;
+use records::state::{ATTRIBUTE_KINDS, OBJECT_PART, object_at, state_layout};
 
 // Some fact is of this kind and object.
 fn member(seen: &[u64], kind: usize, object: usize) -> bool
@@ -19,15 +16,6 @@ fn member(seen: &[u64], kind: usize, object: usize) -> bool
     ensures { result ≡ seen_at seen.now kind object }
 {
     has(seen, kind * OBJECT_PART + object)
-}
-
-// Where the pairs of attribute `p` stand.
-fn pairs(state: &[u16], p: usize) -> Range<usize>
-    requires { KindsRise state.now × (p < max_attributes) }
-    ensures { KindRow state.now (attribute_kinds + p) result }
-{
-    let kind = ATTRIBUTE_KINDS + p;
-    first_of_kind(state, kind)..first_of_kind(state, kind + 1)
 }
 
 // The first object of fact `f` is in class `a`.
@@ -54,26 +42,30 @@ fn repeats_left(state: &[u16], f: usize) -> bool
     0 < f && left(state_layout(), state, f - 1) == left(state_layout(), state, f)
 }
 
-// Objects are only walked for an axiom of classes or of a necessary value, and of the facts those of the axiom's attribute.
-pub fn breaks(x: Axiom, state: &[u16], seen: &[u64]) -> bool
-    requires { AxiomInRange x × KindsRise state.now }
-    ensures { result ≡ breaks state.now seen.now x }
+pub fn object_breaks(x: Axiom, seen: &[u64], d: usize) -> bool
+    requires { AxiomInRange x × (d < 2 ^ 16) }
+    ensures { result ≡ object_breaks seen.now x d }
 {
     match x {
-        Axiom::Subclass(a, b) => {
-            (0..objects(state)).any(|d| member(seen, a, d) && !member(seen, b, d))
-        }
-        Axiom::Necessary(a, p) => {
-            (0..objects(state)).any(|d| member(seen, a, d) && !member(seen, ATTRIBUTE_KINDS + p, d))
-        }
-        Axiom::Typing(a, p, b) => {
-            pairs(state, p).any(|f| first_in(state, seen, a, f) && !second_in(state, seen, b, f))
-        }
-        Axiom::Single(a, p) => {
-            pairs(state, p).any(|f| first_in(state, seen, a, f) && repeats_left(state, f))
-        }
-        Axiom::Relates(p, a, b) => {
-            pairs(state, p).any(|f| !(first_in(state, seen, a, f) && second_in(state, seen, b, f)))
-        }
+        Axiom::Subclass(a, b) => member(seen, a, d) & !member(seen, b, d),
+        Axiom::Typing(_, _, _) => false,
+        Axiom::Necessary(a, p) => member(seen, a, d) & !member(seen, ATTRIBUTE_KINDS + p, d),
+        Axiom::Single(_, _) => false,
+        Axiom::Relates(_, _, _) => false,
+    }
+}
+
+// Fact `f`, a pair of the axiom's attribute, breaks it. The second object is one more word to be read, and so is looked up only where the
+// first does not tell.
+pub fn misplaced(x: Axiom, state: &[u16], seen: &[u64], f: usize) -> bool
+    requires { AxiomInRange x × (f < 2 ^ 16) }
+    ensures { result ≡ misplaced state.now seen.now x f }
+{
+    match x {
+        Axiom::Subclass(_, _) => false,
+        Axiom::Typing(a, _, b) => first_in(state, seen, a, f) && !second_in(state, seen, b, f),
+        Axiom::Necessary(_, _) => false,
+        Axiom::Single(a, _) => first_in(state, seen, a, f) && repeats_left(state, f),
+        Axiom::Relates(_, a, b) => !(first_in(state, seen, a, f) && second_in(state, seen, b, f)),
     }
 }

@@ -1,6 +1,6 @@
 -- The number of facts is a word.
 use Rattle.records.specs.Layout.{state_layout, size_at, entries}
-use Rattle.legality.proofs.breaks.pairs.Goals as goal
+use Rattle.legality.proofs.asked.pairs.Goals as goal
 use native.Mathlib.Omega.{arith}
 
 pub returns : goal.returns
