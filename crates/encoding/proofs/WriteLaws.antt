@@ -1,13 +1,11 @@
 -- What the lent words are after each part of the record has been written to the words from a place to the end.
-use Prim.Native.Nat.{ℕ, ◌+◌, ◌-◌, ◌*◌, ◌≤◌, ◌<◌}
+use Prim.Native.Nat.{ℕ, zero, suc, ◌+◌, ◌-◌, ◌*◌, ◌≤◌, ◌<◌}
+use native.Mathlib.Numerals.{add-one}
 use native.Mathlib.Omega.{arith}
-use native.Mathlib.Decide.{dec_lt}
-use Rattle.std.proofs.lemmas.Grind.{common_steps}
-use Rattle.std.proofs.lemmas.List.{ext_get_or, get_or-map, get_or_append_left, get_or-append_right, get_or-drop}
-use mathlib.Core.List.{List, ◌++◌, map, append-nil, append_assoc}
+use mathlib.Core.List.{List, [], ◌∷◌, ◌++◌, map, append-nil, append_assoc}
 use mathlib.Core.Path.{◌≡◌, refl, sym, ap, ◌∙◌}
-use lib.ListN.{length, get_or, set, take, drop, length-map, length-append, length-drop, drop_of_length-le}
-use lib.Seq.{take_at, drop_at, drop-drop, sets, length-sets, sets-eq}
+use lib.ListN.{length, get_or, set, take, drop, length-map, length-drop, drop_of_length-le}
+use lib.Seq.{take_at, take-length, drop_at, drop-drop, sets, length-sets, sets-eq}
 use borrow.Author.Rules.{part_to_end}
 use borrow.Rule.Slice.PartMut.{mid_of, put_mid}
 use Rattle.records.specs.Layout.{state_layout, length_for}
@@ -20,56 +18,39 @@ rest_back xs a ys =
     ap (λ (zs : List ℕ). take a xs ++ (ys ++ zs)) (drop_of_length-le (drop a xs) {i = length xs - a} (omega (arith, length-drop a xs)))
     ∙ ap (λ (zs : List ℕ). take a xs ++ zs) (append-nil ys)
 
--- The two words of the first i facts stand in their places, left ones from the start and right ones after the last left one.
--- What stands after all of them is as it was.
-pub record Written (left right : ℕ → ℕ) (facts to : List ℕ) (i : ℕ) (now : List ℕ) : Type 0 where
-  pub size : length now ≡ length to
-  pub lefts : (k : ℕ) → k < i → get_or now k 0 ≡ left (get_or facts k 0)
-  pub rights : (k : ℕ) → k < i → get_or now (length facts + k) 0 ≡ right (get_or facts k 0)
-  pub rest : (k : ℕ) → 2 * length facts ≤ k → get_or now k 0 ≡ get_or to k 0
+-- the first i entries of a list, each changed, before what was there
+module _ (f : ℕ → ℕ) where
+  abbrev pub puts : List ℕ → List ℕ → ℕ → List ℕ
+  puts l to i = map f (take i l) ++ drop i to
 
-module _ (left right : ℕ → ℕ) (facts to : List ℕ) where
-  pub written_none : Written left right facts to 0 to
-  written_none = record { size = refl; lefts = λ k l. absurd (omega arith); rights = λ k l. absurd (omega arith); rest = λ k l. refl }
+  puts_next : (l to : List ℕ) (i : ℕ) → i < length l → i < length to → set (puts l to i) i (f (get_or l i 0)) ≡ puts l to (suc i)
+  puts_next [] to i h k = absurd (omega arith)
+  puts_next (x ∷ l) [] i h k = absurd (omega arith)
+  puts_next (x ∷ l) (y ∷ to) zero h k = refl
+  puts_next (x ∷ l) (y ∷ to) (suc i) h k = ap (λ (m : List ℕ). f x ∷ m) (puts_next l to i (omega arith) (omega arith))
 
-  pub written_more : {i x y : ℕ} {now : List ℕ} → 2 * length facts ≤ length to → i < length facts → Written left right facts to i now
-      → x ≡ left (get_or facts i 0) → y ≡ right (get_or facts i 0) → Written left right facts to (i + 1) (set (set now i x) (length facts + i) y)
-  written_more {i} {x} {y} {now} room h z e q =
-      record {
-        size = grind (arith, common_steps);
-        lefts = λ k l. grind (arith, common_steps);
-        rights = λ k l. grind (arith, common_steps);
-        rest = λ k l. grind (arith, common_steps);
-      }
+  pub puts_more : (l to now : List ℕ) (i : ℕ) → i < length l → i < length to → now ≡ puts l to i
+      → set now i (f (get_or l i 0)) ≡ puts l to (i + 1)
+  puts_more l to now i h k e = rw (add-one, e) (puts_next l to i h k)
 
-  pub written_all : {i : ℕ} {now : List ℕ} → 2 * length facts ≤ length to → length facts ≤ i → Written left right facts to i now
-      → now ≡ map left facts ++ map right facts ++ drop (2 * length facts) to
-  written_all {i} {now} room h z = ext_get_or 0 now _ (grind (arith, common_steps)) (λ k l. pick k l (dec_lt k (length facts)) (dec_lt k (2 * length facts)))
-    where
-      ls : List ℕ
-      ls = map left facts
+  pub puts_all : (l to now : List ℕ) (i : ℕ) → i ≤ length l → length l ≤ i → now ≡ puts l to i → now ≡ map f l ++ drop (length l) to
+  puts_all l to now i h k e =
+      let q : i ≡ length l = omega arith in
+      e ∙ ap (puts l to) q ∙ ap (λ (m : List ℕ). map f m ++ drop (length l) to) (take-length l)
 
-      rs : List ℕ
-      rs = map right facts
-
-      end : List ℕ
-      end = drop (2 * length facts) to
-
-      both : length (ls ++ rs) ≡ 2 * length facts
-      both = simp (length-append, length-map) (omega arith)
-
-      pick : (k : ℕ) → k < length now → Dec (k < length facts) → Dec (k < 2 * length facts) → get_or now k 0 ≡ get_or (ls ++ rs ++ end) k 0
-      pick k l (yes a) d =
-          z.lefts k (omega arith) ∙ sym (get_or-map left facts k 0 0 a) ∙ sym (get_or_append_left ls rs 0 k (omega (arith, length-map facts left)))
-          ∙ sym (get_or_append_left (ls ++ rs) end 0 k (omega (arith, both)))
-      pick k l (no a) (yes b) =
-          let e : length facts + (k - length facts) ≡ k = omega arith in
-          (rw e at (z.rights (k - length facts) (omega arith))) ∙ sym (get_or-map right facts (k - length facts) 0 0 (omega arith))
-          ∙ sym (get_or-append_right ls rs (length facts) k 0 (length-map facts left) (omega arith)) ∙ sym (get_or_append_left (ls ++ rs) end 0 k (omega (arith, both)))
-      pick k l (no a) (no b) =
-          let e : 2 * length facts + (k - 2 * length facts) ≡ k = omega arith in
-          z.rest k (omega arith) ∙ ap (λ (j : ℕ). get_or to j 0) (sym e) ∙ sym (get_or-drop (2 * length facts) to (k - 2 * length facts) 0)
-          ∙ sym (get_or-append_right (ls ++ rs) end (2 * length facts) k 0 both (omega arith))
+-- the right words after the left ones
+pub fill_all : (l to now part : List ℕ) → now ≡ map left_word l ++ drop (length l) to
+    → part ≡ map right_word l ++ drop (length l) (mid_of (length l) (length now - length l) now)
+    → put_mid (length l) (length now - length l) now part ≡ map left_word l ++ map right_word l ++ drop (2 * length l) to
+fill_all l to now part p q =
+    let n = length l in
+    let front : take n now ≡ map left_word l
+    = ap (take n) p ∙ take_at (map left_word l) (drop n to) n (length-map l left_word) in
+    let back : mid_of n (length now - n) now ≡ drop n to
+    = part_to_end now n ∙ ap (drop n) p ∙ drop_at (map left_word l) (drop n to) n (length-map l left_word) in
+    let twice : n + n ≡ 2 * n = omega arith in
+    let rest : drop n (drop n to) ≡ drop (2 * n) to = drop-drop n n to ∙ ap (λ (k : ℕ). drop k to) twice in
+    rest_back now n part ∙ rw (front, q, back, rest) (sym (append_assoc (map left_word l) (map right_word l) (drop (2 * n) to)))
 
 -- the sizes, in the first k words, and the words of the entries after them
 record_back : {E : Type 0} (left right : E → ℕ) (sizes : List ℕ) (l : List E) (lent w part : List ℕ) (k : ℕ) → take k w ≡ sizes → drop k w ≡ drop k lent
@@ -90,7 +71,7 @@ module _ (lent : List ℕ) (x y z : ℕ) where
   abbrev w : List ℕ
   w = sized lent x y z
 
-  sized_length : length w ≡ length lent
+  pub sized_length : length w ≡ length lent
   sized_length = length-sets lent 0 sizes
 
   sized_front : length sizes ≤ length lent → take (length sizes) w ≡ sizes
