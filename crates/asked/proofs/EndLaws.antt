@@ -39,19 +39,6 @@ module _ (w : List ℕ) where
     empty_ends Common r h = absurd r
     empty_ends (Mark k) r h = absurd r
 
-  -- the empty path's token is the one that ends a path and is no step's
-  pub no_step : (e : ℕ) (t : Token) → ReadsPath w e t → ((P : ℕ) → t ≡ Forward P → ⊥) → ((P : ℕ) → t ≡ Backward P → ⊥) → ReadsPath w e Empty
-  no_step e (Class A) r f b = absurd r
-  no_step e Everything r f b = absurd r
-  no_step e (Constant a) r f b = absurd r
-  no_step e Both r f b = absurd r
-  no_step e Empty r f b = r
-  no_step e (Forward P) r f b = absurd (f P refl)
-  no_step e (Backward P) r f b = absurd (b P refl)
-  no_step e Reached r f b = absurd r
-  no_step e Common r f b = absurd r
-  no_step e (Mark k) r f b = absurd r
-
   module _ (e n : ℕ) (h : HasPath w e) where
     reads : ReadsPath w (e - 1) (token_at w (e - 1))
     reads = path_reads w (e - 1) (token_at w (e - 1)) (subst (HasPath w) (path_next w e h) h) refl

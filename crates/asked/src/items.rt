@@ -76,18 +76,33 @@ fn path(query: &[u16], kind: Kind, first: usize, end: usize, node: usize, list: 
     ensures { PathGrown first query.now end node kind list result }
 {
     let at = end - 1;
-    let (attribute, backward) = match token_at(query, at) {
-        Token::Forward(attribute) => (attribute, false),
-        Token::Backward(attribute) => (attribute, true),
-        // The empty path; a concept's tokens end no path.
-        _ => return list,
-    };
-    let last = StepToken {
-        at,
-        attribute,
-        backward,
-    };
-    step(query, kind, first, node, last, list)
+    match token_at(query, at) {
+        Token::Empty => list,
+        Token::Forward(attribute) => {
+            let ahead = StepToken {
+                at,
+                attribute,
+                backward: false,
+            };
+            step(query, kind, first, node, ahead, list)
+        }
+        Token::Backward(attribute) => {
+            let back = StepToken {
+                at,
+                attribute,
+                backward: true,
+            };
+            step(query, kind, first, node, back, list)
+        }
+        // A concept's tokens end no path.
+        Token::Class(_)
+        | Token::Everything
+        | Token::Constant(_)
+        | Token::Both
+        | Token::Reached
+        | Token::Common
+        | Token::Mark(_) => list,
+    }
 }
 
 // The token of a step: where it stands, its attribute, and whether the step goes backward.

@@ -5,8 +5,7 @@ use native.Mathlib.Omega.{arith}
 use mathlib.Core.List.{List, ◌∷◌}
 use mathlib.Core.Path.{◌≡◌, refl, sym, ap, ap₂, subst, ◌∙◌}
 use lib.ListN.{length}
-use Rattle.records.specs.declared.token.Token.{Token}
-use Rattle.records.specs.declared.token.Token.TheVariants.{Class, Everything, Constant, Both, Empty, Forward, Backward, Reached, Common, Mark}
+use Rattle.records.specs.declared.token.Token.TheVariants.{Both, Empty, Reached, Common}
 use Rattle.records.specs.Concept.{Concept, class, everything, constant, both, reached, common, mark, Path, empty, step}
 use Rattle.records.specs.Layout.{view_steps, max_attributes, max_objects}
 use Rattle.records.specs.Schema.{Schema}
@@ -14,7 +13,7 @@ use Rattle.records.specs.SchemaRecord.{schema_of}
 use Rattle.records.specs.ConceptRecord.{token_at}
 use Rattle.records.specs.Helpers.Reading.{step_token, start_of, concept_at, path_at}
 use Rattle.records.proofs.PileLaws.{start_le}
-use Rattle.records.proofs.ReadingLaws.{Reads, ReadsStep, ReadsPath, concept_reads, step_reads, concept_next, path_next, concept_token, path_token}
+use Rattle.records.proofs.ReadingLaws.{Reads, ReadsStep, concept_reads, step_reads, concept_next, path_next, concept_token, path_token}
 use Rattle.chase.specs.Ground.{Ground}
 use Rattle.records.specs.Helpers.Steps.{concept_steps, path_steps}
 use Rattle.chase.specs.Forest.{Forest, size, walk, trek, make_for, next}
@@ -376,23 +375,6 @@ module _ {schema view edges objects : List ℕ} {root : Root} {e : ℕ} {h : Her
     pub trek_to : {r : Here} {after : List ℕ} → Trekked schema view edges objects root (suc (e - 1)) h after r
         → Trekked schema view edges objects root e h after r
     trek_to {r} {after} y = subst (λ (d : ℕ). Trekked schema view edges objects root d h after r) (sym trek_after) y
-
-    -- the empty path's token is the one that ends a path and is no step's
-    only_empty : (t : Token) → ReadsPath view (e - 1) t → ((P : ℕ) → t ≡ Forward P → ⊥) → ((P : ℕ) → t ≡ Backward P → ⊥) → t ≡ Empty
-    only_empty (Class A) r f b = absurd r
-    only_empty Everything r f b = absurd r
-    only_empty (Constant a) r f b = absurd r
-    only_empty Both r f b = absurd r
-    only_empty Empty r f b = refl
-    only_empty (Forward P) r f b = absurd (f P refl)
-    only_empty (Backward P) r f b = absurd (b P refl)
-    only_empty Reached r f b = absurd r
-    only_empty Common r f b = absurd r
-    only_empty (Mark k) r f b = absurd r
-
-    pub no_step : {t : Token} → t ≡ token_at view (e - 1) → ((P : ℕ) → t ≡ Forward P → ⊥) → ((P : ℕ) → t ≡ Backward P → ⊥)
-        → token_at view (e - 1) ≡ Empty
-    no_step {t} q f b = sym q ∙ only_empty t (path_token view e can.item (sym q)) f b
 
     pub trek_leaf : token_at view (e - 1) ≡ Empty → Trekked schema view edges objects root e h objects h
     trek_leaf is =

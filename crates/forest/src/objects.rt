@@ -106,7 +106,7 @@ pub fn asks(edges: &[u16], attribute: usize, d: usize) -> bool
 {
     edges.iter().any(|&edge| {
         let w = usize::from(edge);
-        w / PART / PART == attribute && w / PART % PART == d
+        (w / PART / PART == attribute) & (w / PART % PART == d)
     })
 }
 

@@ -104,8 +104,15 @@ fn trek(
     let (attribute, backward) = match token_at(view, at) {
         Token::Forward(attribute) => (attribute, false),
         Token::Backward(attribute) => (attribute, true),
-        // The empty path; a concept's tokens end no path.
-        _ => return here,
+        Token::Empty => return here,
+        // A concept's tokens end no path.
+        Token::Class(_)
+        | Token::Everything
+        | Token::Constant(_)
+        | Token::Both
+        | Token::Reached
+        | Token::Common
+        | Token::Mark(_) => return here,
     };
     let last = Step {
         at,

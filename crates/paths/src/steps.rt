@@ -28,7 +28,14 @@ pub fn step_at(words: &[u16], at: usize) -> Option<Step>
             kind: ATTRIBUTE_KINDS + p,
             backward: true,
         }),
-        _ => None,
+        Token::Class(_)
+        | Token::Everything
+        | Token::Constant(_)
+        | Token::Both
+        | Token::Empty
+        | Token::Reached
+        | Token::Common
+        | Token::Mark(_) => None,
     }
 }
 

@@ -37,7 +37,8 @@ fn takes(token: Token) -> usize
     match token {
         Token::Both | Token::Forward(_) | Token::Backward(_) | Token::Common => 2,
         Token::Reached => 1,
-        _ => 0,
+        Token::Class(_) | Token::Everything | Token::Constant(_) | Token::Empty | Token::Mark(_) =>
+            0,
     }
 }
 
@@ -48,7 +49,7 @@ pub fn start_of(words: &[u16], end: usize) -> usize
 {
     let mut at = end;
     let mut wanted = 1;
-    while 0 < at && 0 < wanted {
+    while (0 < at) & (0 < wanted) {
         at -= 1;
         wanted = takes(token_at(words, at)) + wanted - 1;
     }

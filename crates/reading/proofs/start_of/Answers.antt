@@ -2,23 +2,19 @@
 use native.Mathlib.Omega.{arith}
 use mathlib.Core.Path.{sym, ap, ◌∙◌}
 use Rattle.records.specs.Helpers.Reading.{takes}
-use Rattle.reading.proofs.ReadingScanLaws.{takes_few, start_more, start_spent, start_found}
+use Rattle.reading.proofs.ReadingScanLaws.{takes_few, goes_on, start_more, start_done}
 use Rattle.reading.proofs.start_of.Goals as goal
 
 pub overflow_add-wanted : goal.overflow_add-wanted
 overflow_add-wanted c = omega (arith, c.takes.ensures, takes_few c.token_at.result)
 
 pub loop-at-preserved : goal.loop-at-preserved
-loop-at-preserved c = (
-  start_more c.args.words.now c.loop-at.at c.loop-at.wanted c.takes.result c.loop-at-test.true c.if-wanted-gt0.true
-      (c.takes.ensures ∙ ap takes c.token_at.ensures)
-      ∙ c.loop-at.invariant.0,
-  omega arith,
-  omega (arith, c.takes.ensures, takes_few c.token_at.result),
-)
+loop-at-preserved c =
+    let h = goes_on c.loop-at.at c.loop-at.wanted c.loop-at-test.true in (
+      start_more c.args.words.now _ _ _ h (c.takes.ensures ∙ ap takes c.token_at.ensures) ∙ c.loop-at.invariant.0,
+      omega arith,
+      omega (arith, h.0, h.1, c.takes.ensures, takes_few c.token_at.result),
+    )
 
-pub returns-else-wanted-gt0 : goal.returns-else-wanted-gt0
-returns-else-wanted-gt0 c = sym (start_found c.args.words.now c.loop-at.at c.loop-at.wanted c.if-wanted-gt0.false) ∙ c.loop-at.invariant.0
-
-pub returns-after-loop-at : goal.returns-after-loop-at
-returns-after-loop-at c = sym (start_spent c.args.words.now c.loop-at.at c.loop-at.wanted c.loop-at-test.false) ∙ c.loop-at.invariant.0
+pub returns : goal.returns
+returns c = sym (start_done c.args.words.now _ _ c.loop-at-test.false) ∙ c.loop-at.invariant.0

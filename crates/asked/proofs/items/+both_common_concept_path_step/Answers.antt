@@ -2,18 +2,16 @@
 -- A token's own function stands between: its measure is one more than that of the operands that end at its place. Each answer
 -- cites what the operands' facts make (ItemLaws).
 use Prim.Native.Nat.{◌-◌}
-use mathlib.Core.Path.{◌≡◌, refl, sym, ◌∙◌}
+use mathlib.Core.Path.{◌≡◌, sym, ◌∙◌}
 use Rattle.records.specs.Concept.{direction_of}
 use Rattle.records.specs.ConceptRecord.{token_at}
 use Rattle.records.specs.Helpers.Reading.{step_token}
 use Rattle.records.proofs.PileLaws.{start_le}
-use Rattle.records.proofs.ReadingLaws.{concept_some, path_some, concept_next, path_next, concept_reads, step_reads, concept_suc, path_suc, concept_token, path_token, concept_not_path}
-use Rattle.asked.proofs.EndLaws.{no_step}
+use Rattle.records.proofs.ReadingLaws.{concept_some, path_some, concept_next, path_next, concept_reads, step_reads, concept_suc, path_suc, concept_token, path_token, concept_not_path, path_not_concept}
 use Rattle.asked.proofs.PlaceLaws.{place_earlier, place_node, place_room, place_number}
 use Rattle.asked.proofs.ItemLaws.{place_below, place_after, both_grown, common_grown, step_grown, left_small, right_small, token_named, step_named, class_grown, constant_grown, mark_grown, reached_grown, everything_grown, empty_grown, concept_place, path_place, concept_put, path_put}
 use native.Mathlib.Omega.{arith}
 use Rattle.asked.proofs.items.+both_common_concept_path_step.Goals as goal
-use Rattle.asked.proofs.items.+both_common_concept_path_step.Goals.{path-in-Forward, path-in-Backward}
 
 pub both-concept-after-requires : goal.both-concept-after-requires
 both-concept-after-requires t c =
@@ -150,23 +148,29 @@ path-overflow_sub-at t c = path_some c.args.query.now _ c.requires.has_path
 pub path-step-requires : goal.path-step-requires
 path-step-requires t c =
     let h = c.requires.has_path in
-    let q : token_at c.args.query.now (c.args.end - 1) ≡ step_token (direction_of c.match-token_at.attribute.1) c.match-token_at.attribute.0 =
-    elim c.match-token_at.branch [
-      | path-in-Forward w ↦ rw w.attribute-is (sym c.token_at.ensures ∙ w.in-Forward.is)
-      | path-in-Backward w ↦ rw w.attribute-is (sym c.token_at.ensures ∙ w.in-Backward.is)
-    ] in
+    let q = sym c.token_at.ensures ∙ c.in-Forward.is in
     (omega (arith, c.decreases, path_next c.args.query.now _ h), (path_place c.requires.place h, (path_suc c.args.query.now _ h, q)))
 
-pub path-returns-in_default : goal.path-returns-in_default
-path-returns-in_default t c =
+pub path-step-requires-in-Backward : goal.path-step-requires-in-Backward
+path-step-requires-in-Backward t c =
     let h = c.requires.has_path in
-    let reads = path_token c.args.query.now _ h refl in
-    path_put c.requires.place h
-    (empty_grown (path_place c.requires.place h)
-    (no_step _ _ _ reads (λ P q. c.in_default.not-Forward P (c.token_at.ensures ∙ q)) (λ P q. c.in_default.not-Backward P (c.token_at.ensures ∙ q))))
+    let q = sym c.token_at.ensures ∙ c.in-Backward.is in
+    (omega (arith, c.decreases, path_next c.args.query.now _ h), (path_place c.requires.place h, (path_suc c.args.query.now _ h, q)))
 
-pub path-returns : goal.path-returns
-path-returns t c = path_put c.requires.place c.requires.has_path c.step.ensures
+pub path-returns-in-Empty : goal.path-returns-in-Empty
+path-returns-in-Empty t c =
+    let h = c.requires.has_path in
+    let q = sym c.token_at.ensures ∙ c.in-Empty.is in
+    path_put c.requires.place h (empty_grown (path_place c.requires.place h) (path_token c.args.query.now _ h q))
+
+pub path-returns-in-Class : goal.path-returns-in-Class
+path-returns-in-Class t c = absurd (path_not_concept c.args.query.now _ c.requires.has_path (rw (← c.token_at.ensures) c.in-Class.is))
+
+pub path-returns-in-Forward : goal.path-returns-in-Forward
+path-returns-in-Forward t c = path_put c.requires.place c.requires.has_path c.step.ensures
+
+pub path-returns-in-Backward : goal.path-returns-in-Backward
+path-returns-in-Backward t c = path_put c.requires.place c.requires.has_path c.step-in-Backward.ensures
 
 pub step-concept-after-requires : goal.step-concept-after-requires
 step-concept-after-requires t c =

@@ -8,8 +8,8 @@ use Rattle.records.specs.Concept.{direction_of}
 use Rattle.records.specs.ConceptRecord.{token_at}
 use Rattle.records.specs.Helpers.Reading.{step_token}
 use Rattle.records.proofs.PileLaws.{start_le}
-use Rattle.records.proofs.ReadingLaws.{concept_not_path}
-use Rattle.forest.proofs.WalkLaws.{both_first, both_last, both_walked, reached_path, reached_walked, common_first, common_last, common_walked, step_path, step_make, step_next, step_walk, step_trekked, walk_after, walk_short, walk_from, walk_to, walk_leaf, trek_after, trek_short, trek_from, trek_to, trek_leaf, no_step}
+use Rattle.records.proofs.ReadingLaws.{concept_not_path, path_not_concept}
+use Rattle.forest.proofs.WalkLaws.{both_first, both_last, both_walked, reached_path, reached_walked, common_first, common_last, common_walked, step_path, step_make, step_next, step_walk, step_trekked, walk_after, walk_short, walk_from, walk_to, walk_leaf, trek_after, trek_short, trek_from, trek_to, trek_leaf}
 use Rattle.forest.proofs.walk.+both_common_step_trek_walk.Goals as goal
 use Rattle.forest.proofs.walk.+both_common_step_trek_walk.Goals.{trek-in-Forward, trek-in-Backward}
 
@@ -68,13 +68,16 @@ trek-step-requires t c =
       | trek-in-Forward w ↦ rw w.attribute-is (sym c.token_at.ensures ∙ w.in-Forward.is)
       | trek-in-Backward w ↦ rw w.attribute-is (sym c.token_at.ensures ∙ w.in-Backward.is)
     ] in
-    (omega (arith, c.decreases, trek_after c.requires), (trek_from c.requires, q))
+    grind (arith, c.decreases, trek_after c.requires, trek_from c.requires, q)
 
-pub trek-returns-in_default : goal.trek-returns-in_default
-trek-returns-in_default t c = trek_leaf c.requires (no_step c.requires c.token_at.ensures c.in_default.not-Forward c.in_default.not-Backward)
+pub trek-returns-in-Empty : goal.trek-returns-in-Empty
+trek-returns-in-Empty t c = trek_leaf c.requires (sym c.token_at.ensures ∙ c.in-Empty.is)
+
+pub trek-returns-in-Class : goal.trek-returns-in-Class
+trek-returns-in-Class t c = absurd (path_not_concept c.args.view.now _ c.requires.item (rw (← c.token_at.ensures) c.in-Class.is))
 
 pub trek-returns : goal.trek-returns
-trek-returns t c = trek_to c.requires c.step.ensures
+trek-returns t c = trek_to c.requires (grind (arith, c.step.ensures))
 
 pub walk-overflow_sub-at : goal.walk-overflow_sub-at
 walk-overflow_sub-at t c = omega (arith, walk_after c.requires)
