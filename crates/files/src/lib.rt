@@ -12,7 +12,7 @@ use std::rt::Files;
 fn words_of(bytes: usize, room: usize) -> usize
     ensures { IsCount bytes room result }
 {
-    if bytes % 2 != 0 || room < bytes / 2 {
+    if (bytes % 2 != 0) | (room < bytes / 2) {
         return 0;
     }
     bytes / 2

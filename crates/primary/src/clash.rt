@@ -11,7 +11,7 @@ fn clashes_with(s: Signature, reps: &[u32], first: usize, b: usize) -> bool
     requires { (first + b < length reps.now) × (b < word_digits) }
     ensures { result ≡ repeats s (rep_at reps.now first) b }
 {
-    (0..b).any(|a| differ(s, b, a) && reps[first + a] == reps[first + b])
+    (0..b).any(|a| differ(s, b, a) & (reps[first + a] == reps[first + b]))
 }
 
 pub fn clashes(s: Signature, reps: &[u32], first: usize) -> bool
