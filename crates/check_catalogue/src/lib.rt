@@ -67,7 +67,10 @@ pub fn check_catalogue(s: Signature, words: &[u16]) -> Result<(), Refusal>
     }
     let n = views(words);
     for i in 0..n {
-        check_concept::<View>(s, view_at(words, i))?;
+        let read = check_concept::<View>(s, view_at(words, i));
+        let Ok(_) = read else {
+            return Err(read.unwrap_err());
+        };
     }
     Ok(())
 }

@@ -8,10 +8,16 @@ use records::concept::Role;
 use records::named::Named;
 use records::refusal::Refusal;
 
-#[tactic(auto, unfolding(records::specs::Outcome::outcome, records::specs::Outcome::first_refusal))]
 pub fn check<R: Role>(schema: &[u16], concept: &[u16]) -> Result<Named, Refusal>
     ensures { result ≡ concept_check R.STEPS R.MARKS schema.now concept.now }
 {
-    let s = check_schema(schema)?;
-    check_concept::<R>(s, concept)
+    let declared = check_schema(schema);
+    let Ok(s) = declared else {
+        return Err(declared.unwrap_err());
+    };
+    let read = check_concept::<R>(s, concept);
+    let Ok(named) = read else {
+        return Err(read.unwrap_err());
+    };
+    Ok(named)
 }

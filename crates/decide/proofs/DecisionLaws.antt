@@ -16,9 +16,9 @@ use Rattle.records.specs.Marks.{allowing}
 use Rattle.records.specs.SchemaRefusal.{schema_answer}
 use Rattle.records.specs.ConceptRefusal.{concept_answer}
 use Rattle.records.specs.Refusal.{refusal_in}
-use Rattle.records.specs.Outcome.{refusal_11, lent_refusal, first_refusal, refused_or, outcome}
+use Rattle.records.specs.Outcome.{refusal_11, schema_refusal, query_refusal, lent_refusal, first_refusal, refused_or, outcome}
 use Rattle.records.specs.Helpers.Triple.{Triple}
-use Rattle.records.proofs.OutcomeLaws.{Passed, first_passed, first_among, first_stays, first_none, lent_passed, declared_by, passed_schema, passed_concept}
+use Rattle.records.proofs.OutcomeLaws.{Passed, first_passed, first_among, first_stays, first_none, refused_at, answered_at, answer_passed, lent_passed, declared_by, passed_schema, passed_concept}
 use Rattle.decide.specs.declared.Witness.{Witness}
 use Rattle.decide.specs.Decision.{decide_refusals, Verdict, Decision}
 use Rattle.decide.specs.Holding.{holds_refusals, Tells, Holding, checked}
@@ -36,16 +36,22 @@ module _ (schema query view : List ℕ) where
       pick None = refl
       pick (Some r) = refl
 
-  -- the check of the query refuses, or that of the view
+  -- each return after the schema's check: by the first refusal that applies, or by none
   module _ {s : Signature} (a : schema_answer schema ≡ Ok s) where
-    pub query_refused : {r : Refusal} → Err r ≡ concept_answer query_steps (allowing query_marks s) query → Err r ≡ checked schema query view
-    unfolding outcome first_refusal
-    query_refused e = rw (a, ← (declared_by schema a).1, ← e) refl
+    pub query_refused : {r : Refusal} → concept_answer query_steps (allowing query_marks s) query ≡ Err r → Err r ≡ checked schema query view
+    query_refused {r} e = rw (rw (declared_by schema a).1 at e) (refused_at Err _ (schema_refusal schema ∷ []) _ r (answer_passed a, tt))
 
-    pub view_refused : {x : Named} → Ok x ≡ concept_answer query_steps (allowing query_marks s) query → {r : Refusal}
-        → Err r ≡ concept_answer view_steps (allowing no_marks s) view → Err r ≡ checked schema query view
-    unfolding outcome first_refusal
-    view_refused q e = rw (a, ← (declared_by schema a).1, ← q, ← (declared_by schema a).2, ← e) refl
+    module _ {x : Named} (q : concept_answer query_steps (allowing query_marks s) query ≡ Ok x) where
+      query_passed : query_refusal schema query ≡ None
+      query_passed = answer_passed (rw (declared_by schema a).1 at q)
+
+      pub view_refused : {r : Refusal} → concept_answer view_steps (allowing no_marks s) view ≡ Err r → Err r ≡ checked schema query view
+      view_refused {r} e =
+          rw (rw (declared_by schema a).2 at e)
+          (refused_at Err _ (schema_refusal schema ∷ query_refusal schema query ∷ []) [] r (answer_passed a, (query_passed, tt)))
+
+      pub none_refused : {y : Named} → concept_answer view_steps (allowing no_marks s) view ≡ Ok y → Ok tt ≡ checked schema query view
+      none_refused v = answered_at Err _ refusals (answer_passed a, (query_passed, (answer_passed (rw (declared_by schema a).2 at v), tt)))
 
   module _ {r : Refusal} (e : checked schema query view ≡ Err r) where
     first_is : first_refusal refusals ≡ Some r

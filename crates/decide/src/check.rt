@@ -8,12 +8,20 @@ use records::concept::{Query, View};
 use records::refusal::Refusal;
 
 // The schema, the query and the view, in this order: the first refusal that applies, or nothing.
-#[tactic(auto, using(std::proofs::lemmas::Grind::common_steps, records::proofs::OutcomeLaws::declared_by), unfolding(records::specs::Outcome::outcome, records::specs::Outcome::first_refusal))]
 pub fn check(schema: &[u16], query: &[u16], view: &[u16]) -> Result<(), Refusal>
     ensures { result ≡ checked schema.now query.now view.now }
 {
-    let s = check_schema(schema)?;
-    check_concept::<Query>(s, query)?;
-    check_concept::<View>(s, view)?;
+    let declared = check_schema(schema);
+    let Ok(s) = declared else {
+        return Err(declared.unwrap_err());
+    };
+    let read = check_concept::<Query>(s, query);
+    let Ok(_) = read else {
+        return Err(read.unwrap_err());
+    };
+    let stored = check_concept::<View>(s, view);
+    let Ok(_) = stored else {
+        return Err(stored.unwrap_err());
+    };
     Ok(())
 }

@@ -73,8 +73,9 @@ pub fn answer_by(
         objects,
         object: start,
     };
-    if lent.len() >= STATE_WORDS {
-        write(objects, facts, lent);
+    if lent.len() < STATE_WORDS {
+        return Some(witness);
     }
+    write(objects, facts, lent);
     Some(witness)
 }

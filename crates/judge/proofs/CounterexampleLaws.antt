@@ -1,30 +1,35 @@
--- The answer of counterexample on accepted records, by the first broken axiom and the two sets that evaluation gives.
+-- The answer of counterexample: by the first refusal that applies, or on accepted records by the first broken axiom and the two sets
+-- that evaluation gives.
 use Prim.Native.Nat.{ℕ, ◌≤◌}
-use mathlib.Core.List.{List}
+use mathlib.Core.List.{List, [], ◌∷◌}
 use mathlib.Core.Bool.{Bool, true, false, false≢true, cond, not, ◌&&◌}
 use mathlib.Core.Path.{◌≡◌, refl, sym, ap₂}
 use lib.Dec.{eqb, ltb}
-use Rattle.std.specs.Prelude.{Some, None, Ok}
+use Rattle.std.specs.Prelude.{Some, None, Ok, Err}
 use Rattle.std.specs.Option.{is_some}
 use Rattle.records.specs.declared.schema.Signature.{Signature}
 use Rattle.records.specs.declared.named.Named.{Named}
+use Rattle.records.specs.declared.refusal.Refusal.{Refusal}
 use Rattle.records.specs.Finite.{any, least}
 use Rattle.records.specs.Layout.{object_part, query_steps, view_steps, query_marks, no_marks}
 use Rattle.records.specs.State.{State}
 use Rattle.records.specs.Schema.{Schema}
 use Rattle.records.specs.Concept.{Concept}
 use Rattle.records.specs.Executable.{first_broken, broken}
-use Rattle.records.specs.SchemaRecord.{signature_of}
+use Rattle.records.specs.SchemaRecord.{signature_of, schema_of}
+use Rattle.records.specs.ConceptRecord.{concept_of}
+use Rattle.records.specs.StateRecord.{state_of}
 use Rattle.records.specs.SchemaRefusal.{schema_answer}
 use Rattle.records.specs.ConceptRefusal.{concept_answer}
 use Rattle.records.specs.StateRefusal.{state_answer}
 use Rattle.records.specs.Marks.{allowing, used_marks}
+use Rattle.records.specs.Outcome.{schema_refusal, query_refusal, view_refusal}
 use Rattle.records.proofs.General.FiniteLaws.{least_same}
 use Rattle.records.proofs.General.RangeLaws.{any_least}
 use Rattle.records.proofs.MarkLaws.{accepted_used, accepted_allowing}
-use Rattle.records.proofs.OutcomeLaws.{schema_signature, concept_named, declared_by}
+use Rattle.records.proofs.OutcomeLaws.{refused_at, answered_at, answer_passed, schema_signature, concept_named, declared_by}
 use Rattle.rows.specs.Selection.{Selection}
-use Rattle.judge.specs.Counterexample.{separates, lowest, finding, apart, Accepted}
+use Rattle.judge.specs.Counterexample.{separates, lowest, finding, counterexample_refusals, counterexample_answer, apart, Accepted}
 use Rattle.evaluate.proofs.EvaluationLaws.{selected_bit}
 
 -- the search over the two sets is that over the concepts
@@ -70,3 +75,35 @@ accepted {schema} {query} {view} {state} {s} d q v t =
       view_accepted = rw same.0 (accepted_allowing view_steps schema view (used_marks query) stored.1);
       state_accepted = t;
     }
+
+-- Each return after the schema's check: by the first refusal that applies, or by what the checks accept.
+module _ (schema query view state : List ℕ) {s : Signature} (d : schema_answer schema ≡ Ok s) where
+  pub query_refused : {r : Refusal} → concept_answer query_steps (allowing query_marks s) query ≡ Err r
+      → Err r ≡ counterexample_answer schema query view state
+  query_refused {r} e = rw (rw (declared_by schema d).1 at e) (refused_at Err _ (schema_refusal schema ∷ []) _ r (answer_passed d, tt))
+
+  module _ {x : Named} (q : concept_answer query_steps (allowing query_marks s) query ≡ Ok x) where
+    query_passed : query_refusal schema query ≡ None
+    query_passed = answer_passed (rw (declared_by schema d).1 at q)
+
+    pub view_refused : {r : Refusal} → concept_answer view_steps (allowing no_marks s) view ≡ Err r → Err r ≡ counterexample_answer schema query view state
+    view_refused {r} e =
+        rw (rw (declared_by schema d).2 at e)
+        (refused_at Err _ (schema_refusal schema ∷ query_refusal schema query ∷ []) _ r (answer_passed d, (query_passed, tt)))
+
+    module _ {y : Named} (v : concept_answer view_steps (allowing no_marks s) view ≡ Ok y) where
+      view_passed : view_refusal schema view ≡ None
+      view_passed = answer_passed (rw (declared_by schema d).2 at v)
+
+      pub state_refused : {r : Refusal} → state_answer (allowing (used_marks query) s) state ≡ Err r
+          → Err r ≡ counterexample_answer schema query view state
+      state_refused {r} e =
+          rw (rw (declared_by schema d).0 at e)
+          (refused_at Err _ (schema_refusal schema ∷ query_refusal schema query ∷ view_refusal schema view ∷ []) [] r
+          (answer_passed d, (query_passed, (view_passed, tt))))
+
+      pub finding_answered : state_answer (allowing (used_marks query) s) state ≡ Ok tt
+          → Ok (finding (schema_of schema) (state_of state) (concept_of query) (concept_of view)) ≡ counterexample_answer schema query view state
+      finding_answered t =
+          answered_at Err _ (counterexample_refusals schema query view state)
+          (answer_passed d, (query_passed, (view_passed, (answer_passed (rw (declared_by schema d).0 at t), tt))))

@@ -40,7 +40,6 @@ fn find(s: Signature, schema: &[u16], query: &[u16], view: &[u16], state: &[u16]
 }
 
 // The lowest counterexample, if there is one, or the first refusal that applies.
-#[tactic(auto, using(std::proofs::lemmas::Grind::common_steps, records::proofs::OutcomeLaws::declared_by), unfolding(records::specs::Outcome::outcome, records::specs::Outcome::first_refusal))]
 pub fn counterexample(
     schema: &[u16],
     query: &[u16],
@@ -49,11 +48,23 @@ pub fn counterexample(
 ) -> Result<Option<usize>, Refusal>
     ensures { result ≡ counterexample_answer schema.now query.now view.now state.now }
 {
-    let s = check_schema(schema)?;
-    check_concept::<Query>(s, query)?;
-    check_concept::<View>(s, view)?;
+    let declared = check_schema(schema);
+    let Ok(s) = declared else {
+        return Err(declared.unwrap_err());
+    };
+    let read = check_concept::<Query>(s, query);
+    let Ok(_) = read else {
+        return Err(read.unwrap_err());
+    };
+    let stored = check_concept::<View>(s, view);
+    let Ok(_) = stored else {
+        return Err(stored.unwrap_err());
+    };
     // The state gives an object to each mark that the query uses, and to no other.
     let chosen = allow(s, used(query));
-    check_state(chosen, state)?;
+    let judged = check_state(chosen, state);
+    let Ok(_) = judged else {
+        return Err(judged.unwrap_err());
+    };
     Ok(find(chosen, schema, query, view, state))
 }

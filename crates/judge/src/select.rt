@@ -29,7 +29,6 @@ fn flag(set: &[u64; SET_WORDS], n: usize, lent: &mut [u16]) -> usize
 }
 
 // How many objects are selected, or the first refusal that applies.
-#[tactic(auto, unfolding(records::specs::Outcome::outcome, records::specs::Outcome::first_refusal))]
 pub fn select(
     schema: &[u16],
     concept: &[u16],
@@ -38,9 +37,18 @@ pub fn select(
 ) -> Result<usize, Refusal>
     ensures { record { answer = result; words = lent.new } ≡ select_outcome schema.now concept.now state.now lent.old }
 {
-    let s = check_schema(schema)?;
-    check_concept::<Plain>(s, concept)?;
-    check_state(s, state)?;
+    let declared = check_schema(schema);
+    let Ok(s) = declared else {
+        return Err(declared.unwrap_err());
+    };
+    let read = check_concept::<Plain>(s, concept);
+    let Ok(_) = read else {
+        return Err(read.unwrap_err());
+    };
+    let judged = check_state(s, state);
+    let Ok(_) = judged else {
+        return Err(judged.unwrap_err());
+    };
     let n = objects(state);
     if lent.len() < n {
         return Err(Refusal::LentWords);

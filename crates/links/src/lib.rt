@@ -19,7 +19,6 @@ use records::state::{ATTRIBUTE_KINDS, objects};
 mod counts;
 
 // What both counts check before they begin; the state's refusals come before the attribute's.
-#[tactic(auto, using(std::proofs::lemmas::Grind::common_steps, records::proofs::OutcomeLaws::declared_by), unfolding(records::specs::Outcome::outcome, records::specs::Outcome::first_refusal, records::specs::Outcome::refusal_12))]
 fn check(
     schema: &[u16],
     concept: &[u16],
@@ -28,9 +27,18 @@ fn check(
 ) -> Result<Signature, Refusal>
     ensures { result ≡ checked schema.now concept.now state.now attribute }
 {
-    let s = check_schema(schema)?;
-    check_concept::<Plain>(s, concept)?;
-    check_state(s, state)?;
+    let declared = check_schema(schema);
+    let Ok(s) = declared else {
+        return Err(declared.unwrap_err());
+    };
+    let read = check_concept::<Plain>(s, concept);
+    let Ok(_) = read else {
+        return Err(read.unwrap_err());
+    };
+    let judged = check_state(s, state);
+    let Ok(_) = judged else {
+        return Err(judged.unwrap_err());
+    };
     if s.attributes <= attribute {
         return Err(Refusal::Attribute);
     }

@@ -3,7 +3,6 @@ use mathlib.Core.Path.{sym, ap, ◌∙◌}
 use native.Mathlib.Nat.{le_antisymm}
 use native.Mathlib.Numerals.{add-one}
 use native.Mathlib.Omega.{arith}
-use Rattle.std.proofs.lemmas.Grind.{common_steps}
 use Rattle.records.specs.Refusal.{refusal_in}
 use Rattle.records.specs.ConceptRefusal.{concept_answer}
 use Rattle.records.proofs.OutcomeLaws.{answer_passed}
@@ -20,15 +19,14 @@ pub view_at-requires : goal.view_at-requires
 view_at-requires c =
     view_inside _ (sym c.bad_layout.ensures ∙ c.if-bad_layout.false) _ (omega (arith, c.views-n.ensures.value))
 
-pub returns-in_err-check_concept : goal.returns-in_err-check_concept
-returns-in_err-check_concept c =
-    let read = ap refusal_in (sym (ap (concept_answer _ _) c.view_at.ensures) ∙ sym c.check_concept.ensures ∙ c.in_err-check_concept.was) in
-    let turned = catalogue_view _ _ (sym c.bad_layout.ensures ∙ c.if-bad_layout.false) _ (omega (arith, c.views-n.ensures.value)) c.loop-i.invariant.1 _ read in
-    grind (arith, common_steps)
+pub returns-in_default : goal.returns-in_default
+returns-in_default c =
+    let read = ap refusal_in (sym (ap (concept_answer _ _) c.view_at.ensures) ∙ sym c.check_concept-read.ensures ∙ c.unwrap_err.ensures) in
+    sym (catalogue_view _ _ (sym c.bad_layout.ensures ∙ c.if-bad_layout.false) _ (omega (arith, c.views-n.ensures.value)) c.loop-i.invariant.1 _ read)
 
 pub loop-i-preserved : goal.loop-i-preserved
 loop-i-preserved c =
-    let read = answer_passed (sym (ap (concept_answer _ _) c.view_at.ensures) ∙ sym c.check_concept.ensures ∙ c.in_ok-check_concept.was) in
+    let read = answer_passed (sym (ap (concept_answer _ _) c.view_at.ensures) ∙ sym c.check_concept-read.ensures ∙ c.in-Ok.is) in
     (omega arith, rw (add-one c.loop-i.i) (views_more _ _ _ c.loop-i.invariant.1 read))
 
 pub returns : goal.returns

@@ -2,7 +2,6 @@
 use Prim.Native.Nat.{◌+◌}
 use native.Mathlib.Omega.{arith}
 use Rattle.std.proofs.Common.{rules}
-use Rattle.records.specs.Finite.{sum}
 use Rattle.records.specs.Layout.{size_at}
 use Rattle.records.specs.CatalogueRecord.{length_at, start_at}
 use Rattle.records.proofs.General.SumLaws.{sum_small}
@@ -26,6 +25,11 @@ overflow_add-result-2 c =
     )
 
 pub returns : goal.returns
-unfolding start_at
+unfolding start_at length_at size_at
 returns c =
-    rw (c.views.ensures.value, sum_below {h = length_at c.args.words.now} c.map.ensures.source c.map.ensures.closure c.sum.ensures.ran (λ x r q k. search rules))
+    omega (
+      arith,
+      c.views.ensures.value,
+      sum_below {h = length_at c.args.words.now} c.map.ensures.source c.map.ensures.closure c.sum.ensures.ran (λ x r q k. search rules),
+      sum_small (length_at c.args.words.now) c.args.i (λ k. omega (arith, c.type_inv.words (1 + k))),
+    )

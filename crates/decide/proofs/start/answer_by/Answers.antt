@@ -6,18 +6,19 @@ use Rattle.records.proofs.EncodingLaws.{state_fits}
 use Rattle.decide.proofs.StartLaws.{start_short, start_written}
 use Rattle.decide.proofs.start.answer_by.Goals as goal
 
+pub returns-then-lent-lt-STATE_WORDS : goal.returns-then-lent-lt-STATE_WORDS
+unfolding max_state_words length_for state_layout
+returns-then-lent-lt-STATE_WORDS c =
+    let short = start_short _ _ _ _ c.args.lent.now (sym c.inside.ensures ∙ c.if-inside.false) c.if-lent-lt-STATE_WORDS.true in
+    record { answered = short.0; words = short.1 }
+
 pub write-requires : goal.write-requires
 unfolding max_state_words length_for state_layout
 write-requires c =
-    (c.requires.objects, omega (arith, c.requires.few), omega (arith, state_fits _ c.requires.few, c.if-lent-ge-STATE_WORDS.true))
+    (c.requires.objects, omega (arith, c.requires.few), omega (arith, state_fits _ c.requires.few, c.if-lent-lt-STATE_WORDS.false))
 
-pub returns-then-lent-ge-STATE_WORDS-clause-words : goal.returns-then-lent-ge-STATE_WORDS-clause-words
+pub returns : goal.returns
 unfolding max_state_words length_for state_layout
-returns-then-lent-ge-STATE_WORDS-clause-words c =
-    rw (c.write.ensures.lent_after, c.write.ensures.value)
-    (start_written _ _ _ _ _ (sym c.inside.ensures ∙ c.if-inside.false) c.if-lent-ge-STATE_WORDS.true)
-
-pub returns-else-lent-ge-STATE_WORDS-clause-words : goal.returns-else-lent-ge-STATE_WORDS-clause-words
-unfolding max_state_words length_for state_layout
-returns-else-lent-ge-STATE_WORDS-clause-words c =
-    start_short _ _ _ _ _ (sym c.inside.ensures ∙ c.if-inside.false) c.if-lent-ge-STATE_WORDS.false
+returns c =
+    let written = start_written _ _ _ _ c.args.lent.now (sym c.inside.ensures ∙ c.if-inside.false) c.if-lent-lt-STATE_WORDS.false in
+    record { answered = written.0; words = rw (c.write.ensures.lent_after, c.write.ensures.value) written.1 }

@@ -1,26 +1,45 @@
--- A refusal is under what the schema declares, and that of the state under the marks that the query uses.
-use mathlib.Core.Path.{sym, ◌∙◌}
-use native.Mathlib.Omega.{arith}
-use Rattle.std.proofs.lemmas.Grind.{common_steps}
-use Rattle.records.specs.Outcome.{first_refusal, outcome}
-use Rattle.records.proofs.OutcomeLaws.{declared_by}
-use Rattle.judge.proofs.CounterexampleLaws.{accepted}
+-- Each return is by the first refusal that applies, or by what is found of accepted records (CounterexampleLaws).
+use mathlib.Core.List.{[]}
+use mathlib.Core.Path.{sym, ap, ◌∙◌}
+use Rattle.std.specs.Prelude.{Ok, Err}
+use Rattle.records.proofs.OutcomeLaws.{refused_at}
+use Rattle.judge.proofs.CounterexampleLaws.{accepted, query_refused, view_refused, state_refused, finding_answered}
 use Rattle.judge.proofs.counterexample.counterexample.Goals as goal
 
-pub returns-in_err-check_concept : goal.returns-in_err-check_concept
-unfolding outcome first_refusal
-returns-in_err-check_concept c = grind (arith, common_steps, declared_by _ (sym c.check_schema.ensures ∙ c.in_ok-s.was))
+pub returns-in_default : goal.returns-in_default
+returns-in_default c = rw (sym c.check_schema-declared.ensures ∙ c.unwrap_err.ensures) (refused_at Err _ [] _ _ tt)
 
-pub returns-in_err-check_concept-2 : goal.returns-in_err-check_concept-2
-unfolding outcome first_refusal
-returns-in_err-check_concept-2 c = grind (arith, common_steps, declared_by _ (sym c.check_schema.ensures ∙ c.in_ok-s.was))
+pub returns-in_default-read : goal.returns-in_default-read
+returns-in_default-read c =
+    let declared = sym c.check_schema-declared.ensures ∙ c.in-Ok.is in
+    query_refused _ _ _ _ declared (sym c.check_concept-read.ensures ∙ c.unwrap_err-in_default-read.ensures)
 
-pub returns-in_err-check_state : goal.returns-in_err-check_state
-unfolding outcome first_refusal
-returns-in_err-check_state c = grind (arith, common_steps, declared_by _ (sym c.check_schema.ensures ∙ c.in_ok-s.was))
+pub returns-in_default-stored : goal.returns-in_default-stored
+returns-in_default-stored c =
+    let declared = sym c.check_schema-declared.ensures ∙ c.in-Ok.is in
+    let read = sym c.check_concept-read.ensures ∙ c.in-Ok-read.is in
+    view_refused _ _ _ _ declared read (sym c.check_concept-stored.ensures ∙ c.unwrap_err-in_default-stored.ensures)
+
+pub returns-in_default-judged : goal.returns-in_default-judged
+returns-in_default-judged c =
+    let declared = sym c.check_schema-declared.ensures ∙ c.in-Ok.is in
+    let read = sym c.check_concept-read.ensures ∙ c.in-Ok-read.is in
+    let stored = sym c.check_concept-stored.ensures ∙ c.in-Ok-stored.is in
+    let judged = sym c.check_state-judged.ensures ∙ c.unwrap_err-in_default-judged.ensures in
+    state_refused _ _ _ _ declared read stored (rw (c.allow-chosen.ensures, c.used.ensures) at judged)
 
 pub find-requires : goal.find-requires
 find-requires c =
-    rw (c.allow-chosen.ensures, c.used.ensures)
-    (accepted (sym c.check_schema.ensures ∙ c.in_ok-s.was) (sym c.check_concept.ensures ∙ c.in_ok-check_concept.was) (sym c.check_concept-2.ensures ∙ c.in_ok-check_concept-2.was)
-    (rw (c.allow-chosen.ensures, c.used.ensures) at (sym c.check_state.ensures ∙ c.in_ok-check_state.was)))
+    let declared = sym c.check_schema-declared.ensures ∙ c.in-Ok.is in
+    let read = sym c.check_concept-read.ensures ∙ c.in-Ok-read.is in
+    let stored = sym c.check_concept-stored.ensures ∙ c.in-Ok-stored.is in
+    let judged = sym c.check_state-judged.ensures ∙ c.in-Ok-judged.is in
+    rw (c.allow-chosen.ensures, c.used.ensures) (accepted declared read stored (rw (c.allow-chosen.ensures, c.used.ensures) at judged))
+
+pub returns : goal.returns
+returns c =
+    let declared = sym c.check_schema-declared.ensures ∙ c.in-Ok.is in
+    let read = sym c.check_concept-read.ensures ∙ c.in-Ok-read.is in
+    let stored = sym c.check_concept-stored.ensures ∙ c.in-Ok-stored.is in
+    let judged = sym c.check_state-judged.ensures ∙ c.in-Ok-judged.is in
+    ap Ok c.find.ensures ∙ finding_answered _ _ _ _ declared read stored (rw (c.allow-chosen.ensures, c.used.ensures) at judged)

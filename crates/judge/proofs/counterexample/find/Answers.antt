@@ -1,6 +1,7 @@
 -- An illegal state answers none; of a legal one the search over the two sets is that over the two concepts (CounterexampleLaws).
 use mathlib.Core.Path.{sym, ◌∙◌}
 use native.Mathlib.Omega.{arith}
+use Rattle.std.proofs.lemmas.Grind.{common_steps}
 use Rattle.records.specs.Layout.{query_steps, view_steps}
 use Rattle.records.specs.SchemaRecord.{schema_of}
 use Rattle.records.specs.ConceptRecord.{concept_of}
@@ -27,7 +28,9 @@ unfolding state_of
 returns c =
     let a = c.args in
     let few = objects_few a.state.now (passes_7 _ _ c.requires.state_accepted) in
+    let found =
     rw c.objects.ensures.value at c.lowest.ensures
     ∙ find_legal (schema_of a.schema.now) (state_of a.state.now) (concept_of a.query.now) (concept_of a.view.now) _ _
     c.evaluate-inside.ensures c.evaluate-outside.ensures (omega (arith, few))
-    (rw c.first_broken.ensures at (sym c.is_some.ensures ∙ c.if-is_some.false))
+    (rw c.first_broken.ensures at (sym c.is_some.ensures ∙ c.if-is_some.false)) in
+    grind (arith, common_steps)
