@@ -1,7 +1,9 @@
 -- What the check of a state keeps while it scans the facts, as plain functions: whether they ascend, and the constants' and marks'
 -- objects. StateScanLaws of proofs/ ties them to the refusals.
-use Rattle.std.specs.Prelude.{ℕ, zero, suc, ◌+◌, ◌-◌, List, Bool, true, cond, not, ◌&&◌, ◌||◌, eqb, ltb, leb, get_or, Option, Some, None}
+use Rattle.std.specs.Prelude.{ℕ, zero, suc, ◌+◌, ◌-◌, List, Bool, true, cond, not, ◌&&◌, ◌||◌, eqb, ltb, leb, get_or, Option, Some, None, Result, Ok, Err}
 use Rattle.records.specs.declared.schema.Signature.{Signature}
+use Rattle.records.specs.declared.refusal.Refusal.{Refusal}
+use Rattle.records.specs.declared.refusal.Refusal.TheVariants as refusal
 use Rattle.records.specs.Finite.{any}
 use Rattle.records.specs.State.{repeats}
 use Rattle.records.specs.Layout.{max_constants, max_marks, constant_kinds, fact_kinds}
@@ -16,6 +18,10 @@ last_passes f (suc i) = f i
 -- fact i is the first, or stands after the one before it
 abbrev pub follows_at : List ℕ → ℕ → Bool
 follows_at w i = last_passes (ascends w) i
+
+-- refusal 15, then 10, of a state whose facts ascend, by the two tests
+abbrev pub sorted_answer : Bool → Bool → Result (Unit {0}) Refusal
+sorted_answer miscounted misnamed = cond miscounted (Err refusal.StateClassFacts) (cond misnamed (Err refusal.StateNames) (Ok tt))
 
 -- the slots of constants and marks, the marks after the constants
 abbrev pub slots : ℕ

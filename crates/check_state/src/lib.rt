@@ -4,7 +4,7 @@
 ghost use Rattle.std.specs.Prelude.{◌||◌, false, ◌≡◌, ◌<◌, ◌^◌, length};
 ghost use Rattle.records.specs.StateRecord.{is_class_fact};
 ghost use Rattle.records.specs.StateRefusal.{refusal_7, refusal_9, refusal_15, declares_kind, suits_kind, faulty_fact, ascends as ascends_at, state_answer};
-ghost use Rattle.check_state.specs.Scan.{last_passes, follows_at, slots, slot_of, named_in, misnamed as misnamed_in, mismarked as mismarked_in};
+ghost use Rattle.check_state.specs.Scan.{last_passes, follows_at, sorted_answer, slots, slot_of, named_in, misnamed as misnamed_in, mismarked as mismarked_in};
 ghost use Rattle.records.specs.State.{repeats as repeats_in};
 
 use records::layout::{left, misshapen, right};
@@ -150,6 +150,19 @@ fn bad_shape(words: &[u16]) -> bool
     (MAX_OBJECTS < objects(words)) | (MAX_FACTS < n) | misshapen(state_layout(), words)
 }
 
+// Refusal 15, then 10, or accepted.
+fn answer(miscounted: bool, misnamed: bool) -> Result<(), Refusal>
+    ensures { result ≡ sorted_answer miscounted misnamed }
+{
+    if miscounted {
+        return Err(Refusal::StateClassFacts);
+    }
+    if misnamed {
+        return Err(Refusal::StateNames);
+    }
+    Ok(())
+}
+
 // The first refusal that applies, or nothing.
 #[tactic(auto, using(crate::proofs::StateScanLaws::slot_below))]
 pub fn check_state(s: Signature, words: &[u16]) -> Result<(), Refusal>
@@ -175,11 +188,5 @@ pub fn check_state(s: Signature, words: &[u16]) -> Result<(), Refusal>
     if !ascending {
         return Err(Refusal::StateOrder);
     }
-    if bad_class_facts(words) {
-        return Err(Refusal::StateClassFacts);
-    }
-    if bad_names(s, &counts, &named) {
-        return Err(Refusal::StateNames);
-    }
-    Ok(())
+    answer(bad_class_facts(words), bad_names(s, &counts, &named))
 }

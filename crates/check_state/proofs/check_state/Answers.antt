@@ -3,8 +3,9 @@ use Rattle.std.proofs.lemmas.Bool.{not_from_true}
 use Rattle.records.proofs.General.FiniteLaws.{any_of_lem}
 use Rattle.check_state.proofs.StateScanLaws.{kept_10, kept_8, kept_9, kept_all, kept_more, kept_none, kept_past}
 use Rattle.records.specs.StateRefusal.{refusal_8, state_answer}
+use Rattle.check_state.specs.Scan.{sorted_answer}
 use Rattle.std.proofs.lemmas.Grind.{common_steps}
-use mathlib.Core.Path.{◌∙◌, sym}
+use mathlib.Core.Path.{◌∙◌, ap₂, sym}
 use native.Mathlib.Omega.{arith}
 use Rattle.check_state.proofs.check_state.Goals.{in-Some, in_default}
 use Rattle.check_state.proofs.check_state.Goals as goal
@@ -54,20 +55,9 @@ bad_class_facts-requires c =
 pub bad_names-requires : goal.bad_names-requires
 bad_names-requires c = (c.loop-i.invariant.1.counters, c.loop-i.invariant.1.places)
 
-pub returns-then-bad_class_facts : goal.returns-then-bad_class_facts
-unfolding state_answer
-returns-then-bad_class_facts c =
-    let z = kept_all _ _ c.loop-i.invariant.1 c.loop-i.invariant.0 c.loop-i-test.false c.facts-n.ensures.value in
-    rw (← c.bad_shape.ensures, c.if-bad_shape.false, kept_8 _ _ z, kept_9 _ _ z, c.if-not-ascending.false, ← c.bad_class_facts.ensures, c.if-bad_class_facts.true)
-
-pub returns-then-bad_names : goal.returns-then-bad_names
-unfolding state_answer
-returns-then-bad_names c =
-    let z = kept_all _ _ c.loop-i.invariant.1 c.loop-i.invariant.0 c.loop-i-test.false c.facts-n.ensures.value in
-    rw (← c.bad_shape.ensures, c.if-bad_shape.false, kept_8 _ _ z, kept_9 _ _ z, c.if-not-ascending.false, ← c.bad_class_facts.ensures, c.if-bad_class_facts.false, ← kept_10 _ _ z, ← c.bad_names.ensures, c.if-bad_names.true)
-
 pub returns : goal.returns
 unfolding state_answer
 returns c =
     let z = kept_all _ _ c.loop-i.invariant.1 c.loop-i.invariant.0 c.loop-i-test.false c.facts-n.ensures.value in
-    rw (← c.bad_shape.ensures, c.if-bad_shape.false, kept_8 _ _ z, kept_9 _ _ z, c.if-not-ascending.false, ← c.bad_class_facts.ensures, c.if-bad_class_facts.false, ← kept_10 _ _ z, ← c.bad_names.ensures, c.if-bad_names.false)
+    rw (← c.bad_shape.ensures, c.if-bad_shape.false, kept_8 _ _ z, kept_9 _ _ z, c.if-not-ascending.false)
+    (c.answer.ensures ∙ ap₂ sorted_answer c.bad_class_facts.ensures (c.bad_names.ensures ∙ kept_10 _ _ z))
