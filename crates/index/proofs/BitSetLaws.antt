@@ -19,7 +19,7 @@ use Rattle.records.proofs.General.BoolLaws.{eqb_same}
 use Rattle.records.proofs.General.BitLaws.{word_or, word_zero, word_one}
 
 -- a number past the end is not in the set
-past_bits : (ws : List ℕ) (b : ℕ) → length ws ≤ b / word_bits → bit_at ws b ≡ false
+pub past_bits : (ws : List ℕ) (b : ℕ) → length ws ≤ b / word_bits → bit_at ws b ≡ false
 unfolding bit_at
 past_bits ws b h = rw (get_or-eq_default ws 0 h) (word_zero (b % word_bits))
 

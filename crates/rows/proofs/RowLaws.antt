@@ -1,6 +1,6 @@
 -- What the loops over words keep. A row is some words side by side, so a bit of it is a bit of one of these words.
 use Prim.Native.Nat.{ℕ, zero, suc, ◌+◌, ◌-◌, ◌*◌, ◌/◌, ◌%◌, ◌≤◌, ◌<◌}
-use mathlib.Core.Bool.{Bool, So, ◌&&◌, ◌||◌}
+use mathlib.Core.Bool.{Bool, So, ◌&&◌, ◌||◌, and_self}
 use mathlib.Core.List.{List, ◌++◌}
 use mathlib.Core.Path.{◌≡◌, refl, sym, ap, ap₂, subst, ◌∙◌}
 use native.Mathlib.Decide.{ℕ_discrete, dec_lt}
@@ -124,6 +124,11 @@ shared_row_of {ps} {qs} {t} {vs} e z =
       bits = λ o l. ap (λ (x : ℕ). bit x (o % word_bits)) (z (o / word_bits) (omega arith))
           ∙ word_and _ _ (o % word_bits) ∙ ap₂ (λ (a b : Bool). a && b) (sym (row_word ps t o)) (sym (row_word qs t o));
     }
+
+-- what a row shares with itself is the row
+module _ (ws : List ℕ) (t : ℕ) where
+  pub row_same : {vs : List ℕ} → SharedRow ws ws t vs → Row ws t vs
+  row_same h = record { size = h.size; bits = λ o l. h.bits o l ∙ and_self (row_bit ws t o) }
 
 -- A set is a list of one row.
 pub row_zero : (ws : List ℕ) (o : ℕ) → row_bit ws 0 o ≡ bit_at ws o
