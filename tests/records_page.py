@@ -56,8 +56,16 @@ def evaluated(definitions):
     return known
 
 
-# The roles of concepts: the most steps, and the set of marks.
-ROLES = re.findall(r"impl Role for (\w+) \{\s*const STEPS: usize = (\d+);\s*const MARKS: u32 = (\d+);", SOURCE["concept"])
+def roles_of(source):
+    """The roles of concepts: the most steps, and the set of marks, which may be said to be another role's."""
+    found = {}
+    for name, steps, marks, other in re.findall(
+            r"impl Role for (\w+) \{\s*const STEPS: usize = (\d+);(?:\s*//.*)?\s*const MARKS: u32 = (?:(\d+)|(\w+)::MARKS);", source):
+        found[name] = (name, steps, marks or found[other][2])
+    return list(found.values())
+
+
+ROLES = roles_of(SOURCE["concept"])
 CODE = evaluated([(name, "", text) for name, text in re.findall(r"^(?:pub )?const (\w+): usize = ([^;]+);", "".join(SOURCE.values()), re.M)])
 C = evaluated([
     *re.findall(r"#define (\w+)(?:\((\w+)\))? (.+)", HEADER.replace("BIKUVOA_", "")),
@@ -200,8 +208,8 @@ REFUSALS = {name: int(n) for name, n in re.findall(r"^ +(\w+) = (\d+),", SOURCE[
 
 
 def given(record):
-    """The numbers that a record's check gives, in its order: of a concept those of its tokens, and then those of `answer`."""
-    parts = ("check_tokens", "answer") if record == "concept" else (f"check_{record}",)
+    """The numbers that a record's check gives, in its order: its own, and of a concept and a state then those of `answer`."""
+    parts = {"schema": ["check_schema"], "concept": ["check_tokens", "answer"], "state": ["check_state", "answer"]}[record]
     return [REFUSALS[name] for part in parts for name in re.findall(r"Refusal::(\w+)", function(record, part))]
 
 
@@ -229,6 +237,7 @@ def refusals(rows, orders, lent):
     least, most, more = map(int, re.search(r"Their refusals are (\d+) to (\d+) and (\d+)", text).groups())
     hold("refusals of a concept by itself", [*range(least, most + 1), more], sorted(page["schema"] + page["concept"]))
     hold("refusals for lent words", page["lent words"], [REFUSALS["LentWords"]])
+    hold("limit and marks of a checked concept are its role's", ["R::STEPS", "R::MARKS"], re.findall(r"\bR::\w+", function("concept", "check_concept")))
     looks = {"lent words": ["lent.len", "Refusal::LentWords"], "attribute": ["Refusal::Attribute"],
              **{place: [f"check_concept::<{place.split()[0].capitalize()}>"] for place in ("plain query", "query", "view")}}
     for entry, text in orders:
