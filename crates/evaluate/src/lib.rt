@@ -8,7 +8,7 @@ ghost use Rattle.records.specs.Layout.{concept_layout, entries};
 ghost use Rattle.records.specs.ConceptRecord.{concept_of};
 ghost use Rattle.records.specs.StateRecord.{state_of};
 ghost use Rattle.paths.specs.Evaluable.{Evaluable};
-ghost use Rattle.evaluate.specs.Relations.{common_at, Landable, Relations};
+ghost use Rattle.evaluate.specs.Relations.{is_common, common_at, Landable, Relations};
 ghost use Rattle.rows.specs.Selection.{set_words, Selection};
 
 use records::schema::Signature;
@@ -43,15 +43,32 @@ const SOME_ROWS: usize = 3 * SOME_OBJECTS * SOME_BLOCKS * BLOCK_WORDS;
 
 const ALL_ROWS: usize = 3 * MAX_OBJECTS * SET_WORDS;
 
+fn is_common(token: Token) -> bool
+    ensures { result ≡ is_common token }
+{
+    match token {
+        Token::Class(_) => false,
+        Token::Everything => false,
+        Token::Constant(_) => false,
+        Token::Both => false,
+        Token::Empty => false,
+        Token::Forward(_) => false,
+        Token::Backward(_) => false,
+        Token::Reached => false,
+        Token::Common => true,
+        Token::Mark(_) => false,
+    }
+}
+
 // Whether the concept asks for a common object.
 fn has_common(words: &[u16]) -> bool
     ensures { result ≡ any (entries concept_layout words.now) (common_at words.now) }
 {
-    (0..tokens(words)).any(|i| matches!(token_at(words, i), Token::Common))
+    (0..tokens(words)).any(|i| is_common(token_at(words, i)))
 }
 
 // With rows of so many words for three relations, which only a concept that asks for a common object has. A function for each
-// size, so that no call has a frame for more than one of them.
+// size, so that a small call clears few words.
 fn with_rows<const WORDS: usize>(
     s: Signature,
     concept: &[u16],

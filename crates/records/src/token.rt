@@ -84,5 +84,16 @@ pub fn token_at(words: &[u16], i: usize) -> Token
 pub fn is_step(token: Token) -> bool
     ensures { result ≡ is_step token }
 {
-    matches!(token, Token::Forward(_) | Token::Backward(_))
+    match token {
+        Token::Class(_) => false,
+        Token::Everything => false,
+        Token::Constant(_) => false,
+        Token::Both => false,
+        Token::Empty => false,
+        Token::Forward(_) => true,
+        Token::Backward(_) => true,
+        Token::Reached => false,
+        Token::Common => false,
+        Token::Mark(_) => false,
+    }
 }
