@@ -1,0 +1,2 @@
+-- What only contracts of helper functions cite.
+pub mod Scan

@@ -2,6 +2,7 @@
 #![tactic(auto)]
 
 ghost use Rattle.std.specs.Prelude.{◌≡◌, ◌<◌, ◌≤◌, ◌^◌};
+ghost use Rattle.check_schema.specs.Scan.{content_answer};
 ghost use Rattle.records.specs.Layout.{max_constants};
 ghost use Rattle.records.specs.SchemaRecord.{signature_of};
 ghost use Rattle.records.specs.SchemaRefusal.{oversized as oversized_in, declares as declares_in, faulty_axiom, refusal_1, refusal_14, refusal_2, schema_answer};
@@ -70,6 +71,19 @@ fn bad_axiom(words: &[u16]) -> bool
     (0..axioms(words)).any(|i| faulty_axiom(s, words, i))
 }
 
+// Refusal 14, then 2, or what the schema declares.
+fn answer(s: Signature, undeclared: bool, faulty: bool) -> Result<Signature, Refusal>
+    ensures { result ≡ content_answer s undeclared faulty }
+{
+    if undeclared {
+        return Err(Refusal::SchemaLoose);
+    }
+    if faulty {
+        return Err(Refusal::SchemaAxiom);
+    }
+    Ok(s)
+}
+
 // What the schema declares, or the first refusal that applies.
 #[tactic(auto, unfolding(records::specs::SchemaRefusal::schema_answer))]
 pub fn check_schema(words: &[u16]) -> Result<Signature, Refusal>
@@ -78,11 +92,5 @@ pub fn check_schema(words: &[u16]) -> Result<Signature, Refusal>
     if bad_shape(words) {
         return Err(Refusal::SchemaShape);
     }
-    if bad_loose(words) {
-        return Err(Refusal::SchemaLoose);
-    }
-    if bad_axiom(words) {
-        return Err(Refusal::SchemaAxiom);
-    }
-    Ok(signature_of(words))
+    answer(signature_of(words), bad_loose(words), bad_axiom(words))
 }
