@@ -55,17 +55,16 @@ pub fn object_breaks(x: Axiom, seen: &[u64], d: usize) -> bool
     }
 }
 
-// Fact `f`, a pair of the axiom's attribute, breaks it. The second object is one more word to be read, and so is looked up only where the
-// first does not tell.
+// Fact `f`, a pair of the axiom's attribute, breaks it.
 pub fn misplaced(x: Axiom, state: &[u16], seen: &[u64], f: usize) -> bool
     requires { AxiomInRange x × (f < 2 ^ 16) }
     ensures { result ≡ misplaced state.now seen.now x f }
 {
     match x {
         Axiom::Subclass(_, _) => false,
-        Axiom::Typing(a, _, b) => first_in(state, seen, a, f) && !second_in(state, seen, b, f),
+        Axiom::Typing(a, _, b) => first_in(state, seen, a, f) & !second_in(state, seen, b, f),
         Axiom::Necessary(_, _) => false,
-        Axiom::Single(a, _) => first_in(state, seen, a, f) && repeats_left(state, f),
-        Axiom::Relates(_, a, b) => !(first_in(state, seen, a, f) && second_in(state, seen, b, f)),
+        Axiom::Single(a, _) => first_in(state, seen, a, f) & repeats_left(state, f),
+        Axiom::Relates(_, a, b) => !(first_in(state, seen, a, f) & second_in(state, seen, b, f)),
     }
 }
