@@ -7,10 +7,12 @@ use check_schema::check_schema;
 use records::refusal::Refusal;
 
 // The first refusal that applies, or nothing.
-#[tactic(auto, unfolding(records::specs::Outcome::outcome, records::specs::Outcome::first_refusal))]
 pub fn check(schema: &[u16], catalogue: &[u16]) -> Result<(), Refusal>
     ensures { result ≡ checked schema.now catalogue.now }
 {
-    let s = check_schema(schema)?;
+    let declared = check_schema(schema);
+    let Ok(s) = declared else {
+        return Err(declared.unwrap_err());
+    };
     check_catalogue(s, catalogue)
 }
