@@ -2,7 +2,7 @@
 mod CheckLaws
 pub mod SelectLaws
 mod FlagLaws
-mod LegalLaws
+pub mod LegalLaws
 pub mod CounterexampleLaws
 mod SelectedLaws
 pub mod Exactness
