@@ -19,8 +19,8 @@ const FEW_WORDS: usize = STATE_SIZES + 2 * FEW;
 
 const SOME_WORDS: usize = STATE_SIZES + 2 * SOME;
 
-// Whether the start is in the view. The record is written to so many words: a function for each size, so that no call has a
-// frame for more than one of them.
+// Whether the start is in the view. The record is written to so many words: a function for each size, so that a small
+// call clears few words.
 fn inside_in<const WORDS: usize>(
     s: Signature,
     view: &[u16],

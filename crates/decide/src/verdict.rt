@@ -23,8 +23,8 @@ use records::marks::allow;
 use records::schema::signature_of;
 use records::state::MAX_FACTS;
 
-// By the candidate in arrays, whose facts are listed in so many words: a function for each size, so that no call has a frame for
-// more than one of them.
+// By the candidate in arrays, whose facts are listed in so many words: a function for each size, so that a small call clears few
+// words.
 fn list_in<const FACTS: usize>(
     schema: &[u16],
     view: &[u16],
