@@ -208,9 +208,9 @@ REFUSALS = {name: int(n) for name, n in re.findall(r"^ +(\w+) = (\d+),", SOURCE[
 
 
 def given(record):
-    """The numbers that a record's check gives, in its order: its own, and of a concept and a state then those of `answer`."""
-    parts = {"schema": ["check_schema"], "concept": ["check_tokens", "answer"], "state": ["check_state", "answer"]}[record]
-    return [REFUSALS[name] for part in parts for name in re.findall(r"Refusal::(\w+)", function(record, part))]
+    """The numbers that a record's check gives, in its order: its own, then those of `answer`, with which it ends."""
+    check = "check_tokens" if record == "concept" else f"check_{record}"
+    return [REFUSALS[name] for part in (check, "answer") for name in re.findall(r"Refusal::(\w+)", function(record, part))]
 
 
 def refusals(rows, orders, lent):
